@@ -12,21 +12,22 @@ use Rattle.record.specs.declared.events.ActionAt.{ActionAt}
 use Rattle.record.specs.declared.events.StateAt.{StateAt}
 use Rattle.record.specs.declared.events.Event.{Event}
 use Rattle.record.specs.declared.events.Event.TheVariants.{Action, Retransmission, State, Request}
-use Rattle.reader.specs.declared.Reading.{Reading}
-use Rattle.reader.specs.declared.Reading.TheVariants.{Good, Refused}
+use Rattle.std.specs.Prelude.{Result, Ok, Err}
+use Rattle.refusals.specs.Numbers.{refusal_number}
+use Rattle.refusals.specs.declared.Refusal.{Refusal}
 
 -- the reading
 
-pub good_says : (c : Context) (r : Reading) (v : Event) (e : List ℕ) → meaning r e ≡ read (context_of c) e → r ≡ Good v
+pub good_says : (c : Context) (r : Result Event Refusal) (v : Event) (e : List ℕ) → meaning r e ≡ read (context_of c) e → r ≡ Ok v
     → read (context_of c) e ≡ says (record_of v e)
 unfolding meaning
-good_says c r v e h f = sym h ∙ ap (λ (x : Reading). meaning x e) f
+good_says c r v e h f = sym h ∙ ap (λ (x : Result Event Refusal). meaning x e) f
 
-pub refused_says : (c : Context) (r : Reading) (k : ℕ) (e : List ℕ) → meaning r e ≡ read (context_of c) e → r ≡ Refused k → read (context_of c) e ≡ refused k
+pub refused_says : (c : Context) (r : Result Event Refusal) (k : Refusal) (e : List ℕ) → meaning r e ≡ read (context_of c) e → r ≡ Err k → read (context_of c) e ≡ refused (refusal_number k)
 unfolding meaning
-refused_says c r k e h f = sym h ∙ ap (λ (x : Reading). meaning x e) f
+refused_says c r k e h f = sym h ∙ ap (λ (x : Result Event Refusal). meaning x e) f
 
-pub good_placed : (c : Context) (r : Reading) (v : Event) (e : List ℕ) → placed c r e → r ≡ Good v → PlacedEvent c v e
+pub good_placed : (c : Context) (r : Result Event Refusal) (v : Event) (e : List ℕ) → placed c r e → r ≡ Ok v → PlacedEvent c v e
 unfolding placed
 good_placed c r v e h f = rw f at h
 

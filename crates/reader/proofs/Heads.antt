@@ -3,7 +3,8 @@ use Prim.Native.Nat.{ℕ, ◌+◌, ◌≤◌, ◌<◌}
 use mathlib.Core.Path.{◌≡◌, refl, sym, ap, ◌∙◌}
 use mathlib.Core.Bool.{Bool, true, false, not}
 use mathlib.Core.List.{List}
-use mathlib.Core.Option.{Option, none, some}
+use mathlib.Core.Option.{Option as FormatOption, none, some}
+use Rattle.std.specs.Prelude.{Option, None}
 use native.Mathlib.Omega.{arith}
 use lib.ListN.{length}
 use lib.Dec.{eqb}
@@ -18,8 +19,7 @@ use Rattle.format.specs.Types.{Kind, kind_number}
 use Rattle.format.specs.Read.{kind_named}
 use Rattle.format.proofs.Reading.{kind_named_lem}
 use Rattle.reader.specs.Framed.{head_ok, body_in, body_as, framed_in, found, FoundInside, Answers}
-use Rattle.reader.specs.declared.frame.Framed.{Framed}
-use Rattle.reader.specs.declared.frame.Framed.TheVariants.{Bad}
+use Rattle.record.specs.declared.events.Event.{Event}
 
 -- the head
 
@@ -51,28 +51,28 @@ unnamed x a b c d e f g h =
     (pick_ne x 3 _ _ _ c
     (pick_ne x 4 _ _ _ d (pick_ne x 5 _ _ _ e (pick_ne x 6 _ _ _ f (pick_ne x 7 _ _ _ g (pick_ne x 8 _ _ _ h refl))))))))
 
-pub framed_bad : (e : List ℕ) (n : ℕ) (b : Bool) → b ≡ head_ok e → not b ≡ true → Answers (framed_in n e) n Bad e
+pub framed_bad : (e : List ℕ) (n : ℕ) (b : Bool) → b ≡ head_ok e → not b ≡ true → Answers (framed_in n e) n None e
 unfolding framed_in found FoundInside
 framed_bad e n b f g = record { is = pick_no (head_ok e) _ _ _ (sym f ∙ not-true b g) refl; within = tt }
 
-framed_as : (o : Option Kind) (e : List ℕ) (n : ℕ) (b : Bool) (r : Framed) → b ≡ head_ok e → not b ≡ false → kind_named (number_at 1 e at_kind) ≡ o
+framed_as : (o : FormatOption Kind) (e : List ℕ) (n : ℕ) (b : Bool) (r : Option Event) → b ≡ head_ok e → not b ≡ false → kind_named (number_at 1 e at_kind) ≡ o
     → Answers (body_as o n e) n r e → Answers (framed_in n e) n r e
 unfolding framed_in
 framed_as o e n b r f g h k =
-    record { is = pick_yes (head_ok e) _ _ _ (sym f ∙ not-false b g) (k.is ∙ ap (λ (p : Option Kind). body_as p n e) (sym h)); within = k.within }
+    record { is = pick_yes (head_ok e) _ _ _ (sym f ∙ not-false b g) (k.is ∙ ap (λ (p : FormatOption Kind). body_as p n e) (sym h)); within = k.within }
 
-pub framed_one : (k : Kind) (e : List ℕ) (n x : ℕ) (b : Bool) (r : Framed) → b ≡ head_ok e → not b ≡ false → x ≡ number_at 1 e at_kind → x ≡ kind_number k
+pub framed_one : (k : Kind) (e : List ℕ) (n x : ℕ) (b : Bool) (r : Option Event) → b ≡ head_ok e → not b ≡ false → x ≡ number_at 1 e at_kind → x ≡ kind_number k
     → Answers (body_in k n e) n r e → Answers (framed_in n e) n r e
 unfolding body_as
 framed_one k e n x b r f g h i j = framed_as (some k) e n b r f g (ap kind_named (sym h ∙ i) ∙ kind_named_lem k) j
 
-pub framed_arm : (k : Kind) (e : List ℕ) (n x : ℕ) (b : Bool) (r : Framed) → b ≡ head_ok e → not b ≡ false → x ≡ number_at 1 e at_kind → x ≡ kind_number k
+pub framed_arm : (k : Kind) (e : List ℕ) (n x : ℕ) (b : Bool) (r : Option Event) → b ≡ head_ok e → not b ≡ false → x ≡ number_at 1 e at_kind → x ≡ kind_number k
     → ((m : ℕ) → Answers (body_in k m e) m r e) → Answers (framed_in n e) n r e
 framed_arm k e n x b r f g h i j = framed_one k e n x b r f g h i (j n)
 
 pub framed_other : (e : List ℕ) (n x : ℕ) (b : Bool) → b ≡ head_ok e → not b ≡ false → x ≡ number_at 1 e at_kind
     → (x ≡ 1 → ⊥) → (x ≡ 2 → ⊥) → (x ≡ 3 → ⊥) → (x ≡ 4 → ⊥) → (x ≡ 5 → ⊥) → (x ≡ 6 → ⊥) → (x ≡ 7 → ⊥) → (x ≡ 8 → ⊥)
-    → Answers (framed_in n e) n Bad e
+    → Answers (framed_in n e) n None e
 unfolding body_as found FoundInside
 framed_other e n x b f g h h₁ h₂ h₃ h₄ h₅ h₆ h₇ h₈ =
-    framed_as none e n b Bad f g (ap kind_named (sym h) ∙ unnamed x h₁ h₂ h₃ h₄ h₅ h₆ h₇ h₈) (record { is = refl; within = tt })
+    framed_as none e n b None f g (ap kind_named (sym h) ∙ unnamed x h₁ h₂ h₃ h₄ h₅ h₆ h₇ h₈) (record { is = refl; within = tt })

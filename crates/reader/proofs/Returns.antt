@@ -4,6 +4,7 @@ use mathlib.Core.Path.{◌≡◌, refl, sym, ap, ◌∙◌}
 use mathlib.Core.Bool.{Bool, true, false, not}
 use mathlib.Core.List.{List}
 use mathlib.Core.Option.{some}
+use Rattle.std.specs.Prelude.{Option, Some, None, Ok, Err}
 use native.Mathlib.Omega.{arith}
 use borrow.Author.Tests.{not-true, not-false}
 use Rattle.base.specs.Tests.{◌and◌}
@@ -19,44 +20,42 @@ use Rattle.reader.specs.Framed.{framed_in, found, FoundInside, Answers}
 use Rattle.reader.specs.Reading.{Readable, meaning, placed}
 use Rattle.record.specs.declared.Context.{Context}
 use Rattle.record.specs.declared.events.Event.{Event}
-use Rattle.reader.specs.declared.frame.Framed.{Framed}
-use Rattle.reader.specs.declared.frame.Framed.TheVariants.{Good, Bad}
-use Rattle.reader.specs.declared.Reading.TheVariants.{Good as Says, Refused}
+use Rattle.refusals.specs.declared.Refusal.TheVariants.{BadRecord, OutOfRange}
 use Rattle.reader.proofs.Judged.{judged, read_judged}
 use Rattle.reader.proofs.Placing.{context_in_lem, event_placed}
 
 -- What `framed_event` answered: nothing, or v.
 
-unframed : (c : Context) (e : List ℕ) (f : Framed) → Answers (framed_in c.servers e) c.servers f e → f ≡ Bad → read (context_of c) e ≡ refused 1
+unframed : (c : Context) (e : List ℕ) (f : Option Event) → Answers (framed_in c.servers e) c.servers f e → f ≡ None → read (context_of c) e ≡ refused 1
 unfolding found judged context_of
 unframed c e f h g =
-    read_judged (context_of c) e ∙ ap (judged (context_of c)) (sym h.is ∙ ap (λ (x : Framed). found x e) g)
+    read_judged (context_of c) e ∙ ap (judged (context_of c)) (sym h.is ∙ ap (λ (x : Option Event). found x e) g)
 
-framed_as : (c : Context) (e : List ℕ) (f : Framed) (v : Event) → Answers (framed_in c.servers e) c.servers f e → f ≡ Good v
+framed_as : (c : Context) (e : List ℕ) (f : Option Event) (v : Event) → Answers (framed_in c.servers e) c.servers f e → f ≡ Some v
     → read (context_of c) e ≡ judged (context_of c) (some (record_of v e))
 unfolding found context_of
 framed_as c e f v h g =
-    read_judged (context_of c) e ∙ ap (judged (context_of c)) (sym h.is ∙ ap (λ (x : Framed). found x e) g)
+    read_judged (context_of c) e ∙ ap (judged (context_of c)) (sym h.is ∙ ap (λ (x : Option Event). found x e) g)
 
-inside_as : (c : Context) (e : List ℕ) (f : Framed) (v : Event) → Answers (framed_in c.servers e) c.servers f e → f ≡ Good v → Inside c.servers v e
+inside_as : (c : Context) (e : List ℕ) (f : Option Event) (v : Event) → Answers (framed_in c.servers e) c.servers f e → f ≡ Some v → Inside c.servers v e
 unfolding FoundInside
 inside_as c e f v h g = rw g at h.within
 
-pub read_unframed : (c : Context) (e : List ℕ) (f : Framed) → Answers (framed_in c.servers e) c.servers f e → f ≡ Bad
-    → meaning (Refused 1) e ≡ read (context_of c) e
+pub read_unframed : (c : Context) (e : List ℕ) (f : Option Event) → Answers (framed_in c.servers e) c.servers f e → f ≡ None
+    → meaning (Err BadRecord) e ≡ read (context_of c) e
 unfolding meaning
 read_unframed c e f h g = sym (unframed c e f h g)
 
-pub refusal_one : (c : Context) (e : List ℕ) → placed c (Refused 1) e
+pub refusal_one : (c : Context) (e : List ℕ) → placed c (Err BadRecord) e
 unfolding placed
 refusal_one c e = record { least = omega arith; most = omega arith }
 
-pub refusal_two : (c : Context) (e : List ℕ) → placed c (Refused 2) e
+pub refusal_two : (c : Context) (e : List ℕ) → placed c (Err OutOfRange) e
 unfolding placed
 refusal_two c e = record { least = omega arith; most = omega arith }
 
-pub read_context : (c : Context) (e : List ℕ) (f : Framed) (v : Event) (b : Bool) → Answers (framed_in c.servers e) c.servers f e → f ≡ Good v
-    → b ≡ context_ok (context_of c) → not b ≡ true → meaning (Refused 2) e ≡ read (context_of c) e
+pub read_context : (c : Context) (e : List ℕ) (f : Option Event) (v : Event) (b : Bool) → Answers (framed_in c.servers e) c.servers f e → f ≡ Some v
+    → b ≡ context_ok (context_of c) → not b ≡ true → meaning (Err OutOfRange) e ≡ read (context_of c) e
 unfolding meaning judged record_ok
 read_context c e f v b h g i j =
     pick_no _ (refused 2) _ _ (sym (and_no (context_ok (context_of c)) (fields_ok (context_of c) (record_of v e)) (sym i ∙ not-true b j))) refl
@@ -65,27 +64,27 @@ read_context c e f v b h g i j =
 both_no : (t u : Bool) → u ≡ false → (t and u) ≡ false
 both_no t u h = rw h (sym (and_false t))
 
-pub read_ranges : (c : Context) (e : List ℕ) (f : Framed) (v : Event) (b d : Bool) → Answers (framed_in c.servers e) c.servers f e → f ≡ Good v
+pub read_ranges : (c : Context) (e : List ℕ) (f : Option Event) (v : Event) (b d : Bool) → Answers (framed_in c.servers e) c.servers f e → f ≡ Some v
     → b ≡ context_ok (context_of c) → not b ≡ false → d ≡ fields_ok (context_of c) (record_of v e) → not d ≡ true
-    → meaning (Refused 2) e ≡ read (context_of c) e
+    → meaning (Err OutOfRange) e ≡ read (context_of c) e
 unfolding meaning judged record_ok
 read_ranges c e f v b d h g i j k l =
     pick_no _ (refused 2) _ _ (both_no (context_ok (context_of c)) (fields_ok (context_of c) (record_of v e)) (sym k ∙ not-true d l)) refl
     ∙ sym (framed_as c e f v h g)
 
-pub read_good : (c : Context) (e : List ℕ) (f : Framed) (v : Event) (b d : Bool) → Answers (framed_in c.servers e) c.servers f e → f ≡ Good v
+pub read_good : (c : Context) (e : List ℕ) (f : Option Event) (v : Event) (b d : Bool) → Answers (framed_in c.servers e) c.servers f e → f ≡ Some v
     → b ≡ context_ok (context_of c) → not b ≡ false → d ≡ fields_ok (context_of c) (record_of v e) → not d ≡ false
-    → meaning (Says v) e ≡ read (context_of c) e
+    → meaning (Ok v) e ≡ read (context_of c) e
 unfolding meaning judged record_ok
 read_good c e f v b d h g i j k l =
     pick_yes _ (says (record_of v e)) _ _ (both_yes (context_ok (context_of c)) (fields_ok (context_of c) (record_of v e)) (sym i ∙ not-false b j) (sym k ∙ not-false d l)) refl
     ∙ sym (framed_as c e f v h g)
 
-pub read_placed : (c : Context) (e : List ℕ) (f : Framed) (v : Event) (b d : Bool) → Answers (framed_in c.servers e) c.servers f e → f ≡ Good v → Bytes e
-    → b ≡ context_ok (context_of c) → not b ≡ false → d ≡ fields_ok (context_of c) (record_of v e) → not d ≡ false → placed c (Says v) e
+pub read_placed : (c : Context) (e : List ℕ) (f : Option Event) (v : Event) (b d : Bool) → Answers (framed_in c.servers e) c.servers f e → f ≡ Some v → Bytes e
+    → b ≡ context_ok (context_of c) → not b ≡ false → d ≡ fields_ok (context_of c) (record_of v e) → not d ≡ false → placed c (Ok v) e
 unfolding placed
 read_placed c e f v b d h g y i j k l = event_placed c v e (sym i ∙ not-false b j) (inside_as c e f v h g) y (sym k ∙ not-false d l)
 
-pub read_readable : (c : Context) (e : List ℕ) (f : Framed) (v : Event) (b : Bool) → Answers (framed_in c.servers e) c.servers f e → f ≡ Good v → Bytes e
+pub read_readable : (c : Context) (e : List ℕ) (f : Option Event) (v : Event) (b : Bool) → Answers (framed_in c.servers e) c.servers f e → f ≡ Some v → Bytes e
     → b ≡ context_ok (context_of c) → not b ≡ false → Readable c v e
 read_readable c e f v b h g y i j = record { context = context_in_lem c (sym i ∙ not-false b j); inside = inside_as c e f v h g; bytes = y }

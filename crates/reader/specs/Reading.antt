@@ -1,5 +1,5 @@
 -- The reader's answer: what it stands for, and what a caller knows of it.
-use Rattle.std.specs.Prelude.{ℕ, ◌+◌, ◌*◌, ◌≤◌, ◌<◌, ◌≡◌, Bool, true, List, length}
+use Rattle.std.specs.Prelude.{ℕ, ◌+◌, ◌*◌, ◌≤◌, ◌<◌, ◌≡◌, Bool, true, List, length, Result, Ok, Err}
 use Rattle.base.specs.Tests.{◌and◌, ◌≤?◌, ◌<?◌}
 use Rattle.base.specs.Bytes.{Bytes}
 use Rattle.format.specs.Limits.{most_payload_limit, most_number_limit, most_length_limit}
@@ -14,8 +14,8 @@ use Rattle.record.specs.declared.events.ActionAt.{ActionAt}
 use Rattle.record.specs.declared.events.StateAt.{StateAt}
 use Rattle.record.specs.declared.events.Event.{Event}
 use Rattle.record.specs.declared.events.Event.TheVariants.{Action, Retransmission, State, Cpc, Regular, Transitional, Request, Recovery}
-use Rattle.reader.specs.declared.Reading.{Reading}
-use Rattle.reader.specs.declared.Reading.TheVariants.{Good, Refused}
+use Rattle.refusals.specs.Numbers.{refusal_number}
+use Rattle.refusals.specs.declared.Refusal.{Refusal}
 
 -- An event whose ranges can be looked at.
 pub record Readable (c : Context) (v : Event) (e : List ℕ) : Type 0 where
@@ -42,9 +42,9 @@ unfoldable pub lists_ok : FormatContext → FormatState → Bool
 lists_ok c s = cuts_ok most_number_limit s.cuts and length s.yellow.ids ≤? c.servers * c.quota and ids_ok c s.yellow.ids
 
 -- "Where an answer is an enum, a definition gives this paper's number and values for each of its cases": e is the event's bytes.
-unfoldable pub meaning : Reading → List ℕ → FormatReading Record
-meaning (Good v) e = says (record_of v e)
-meaning (Refused k) e = refused k
+unfoldable pub meaning : Result Event Refusal → List ℕ → FormatReading Record
+meaning (Ok v) e = says (record_of v e)
+meaning (Err r) e = refused (refusal_number r)
 
 -- Where the parts of an event lie, and how large its numbers are.
 
@@ -91,10 +91,11 @@ pub record PlacedEvent (c : Context) (v : Event) (e : List ℕ) : Type 0 where
   pub parts : Placed c v e
   pub bytes : Bytes e
 
-pub record Refusal (k : ℕ) : Type 0 where
+-- A record is refused for its frame or for a range.
+pub record RecordRefused (k : ℕ) : Type 0 where
   pub least : 1 ≤ k
   pub most : k ≤ 2
 
-unfoldable pub placed : Context → Reading → List ℕ → Type 0
-placed c (Good v) e = PlacedEvent c v e
-placed c (Refused k) e = Refusal k
+unfoldable pub placed : Context → Result Event Refusal → List ℕ → Type 0
+placed c (Ok v) e = PlacedEvent c v e
+placed c (Err r) e = RecordRefused (refusal_number r)

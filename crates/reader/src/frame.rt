@@ -9,120 +9,113 @@ use record::State;
 use record::events::{Event, StateAt, StateHead, VERSION};
 use record::parts::{action_at, state_head};
 
-// The event that the bytes frame, its ranges not looked at; or none.
-#[derive(Clone, Copy)]
-pub enum Framed {
-    Good(Event),
-    Bad,
-}
-
-fn frame_action(e: &[u8]) -> Framed
+fn frame_action(e: &[u8]) -> Option<Event>
     ensures { (n : ℕ) → Answers (body_in of_action n e.now) n result e.now }
 {
     if e.len() < Event::ACTION_SIZE {
-        return Framed::Bad;
+        return None;
     }
     let m = num8(e, Event::PAYLOAD) as usize;
     if Event::ACTION_SIZE + m != e.len() {
-        return Framed::Bad;
+        return None;
     }
-    Framed::Good(Event::Action(action_at(e, Event::BODY)))
+    Some(Event::Action(action_at(e, Event::BODY)))
 }
 
-fn frame_retransmission(e: &[u8]) -> Framed
+fn frame_retransmission(e: &[u8]) -> Option<Event>
     ensures { (n : ℕ) → Answers (body_in of_retransmission n e.now) n result e.now }
 {
     if e.len() < Event::RETRANSMISSION_SIZE {
-        return Framed::Bad;
+        return None;
     }
     let m = num8(e, Event::RESENT_PAYLOAD) as usize;
     if Event::RETRANSMISSION_SIZE + m != e.len() {
-        return Framed::Bad;
+        return None;
     }
     let action = action_at(e, Event::RESENT);
-    Framed::Good(Event::Retransmission {
+    Some(Event::Retransmission {
         sender: num8(e, Event::SENDER),
         position: num32(e, Event::NUMBER),
         action,
     })
 }
 
-fn frame_state(e: &[u8], servers: u8) -> Framed
+fn frame_state(e: &[u8], servers: u8) -> Option<Event>
     ensures { Answers (body_in of_state servers e.now) servers result e.now }
 {
     let at = StateHead::CUTS + State::CUT * (servers as usize);
     if e.len() < at + StateHead::STANDING {
-        return Framed::Bad;
+        return None;
     }
     let head = state_head(e, servers, at);
     if at + StateHead::STANDING + State::ID * (head.yellow_count as usize) != e.len() {
-        return Framed::Bad;
+        return None;
     }
-    Framed::Good(Event::State(StateAt {
+    Some(Event::State(StateAt {
         head,
         cuts_at: StateHead::CUTS,
         yellow_at: at + StateHead::STANDING,
     }))
 }
 
-fn frame_cpc(e: &[u8]) -> Framed
+fn frame_cpc(e: &[u8]) -> Option<Event>
     ensures { (n : ℕ) → Answers (body_in of_cpc n e.now) n result e.now }
 {
     if e.len() != Event::CPC_SIZE {
-        return Framed::Bad;
+        return None;
     }
-    Framed::Good(Event::Cpc {
+    Some(Event::Cpc {
         sender: num8(e, Event::SENDER),
         configuration: num32(e, Event::NUMBER),
     })
 }
 
-fn frame_regular(e: &[u8]) -> Framed
+fn frame_regular(e: &[u8]) -> Option<Event>
     ensures { (n : ℕ) → Answers (body_in of_regular n e.now) n result e.now }
 {
     if e.len() != Event::REGULAR_SIZE {
-        return Framed::Bad;
+        return None;
     }
-    Framed::Good(Event::Regular {
+    Some(Event::Regular {
         configuration: num32(e, Event::BODY),
         set: num8(e, Event::REGULAR_SET),
     })
 }
 
-fn frame_transitional(e: &[u8]) -> Framed
+fn frame_transitional(e: &[u8]) -> Option<Event>
     ensures { (n : ℕ) → Answers (body_in of_transitional n e.now) n result e.now }
 {
     if e.len() != Event::TRANSITIONAL_SIZE {
-        return Framed::Bad;
+        return None;
     }
-    Framed::Good(Event::Transitional {
+    Some(Event::Transitional {
         set: num8(e, Event::BODY),
     })
 }
 
-fn frame_request(e: &[u8]) -> Framed
+fn frame_request(e: &[u8]) -> Option<Event>
     ensures { (n : ℕ) → Answers (body_in of_request n e.now) n result e.now }
 {
     if e.len() < Event::REQUEST_SIZE {
-        return Framed::Bad;
+        return None;
     }
     let m = num8(e, Event::BODY) as usize;
     if Event::REQUEST_SIZE + m != e.len() {
-        return Framed::Bad;
+        return None;
     }
-    Framed::Good(Event::Request {
+    Some(Event::Request {
         payload_at: Event::REQUEST_SIZE,
         payload_length: m,
     })
 }
 
-fn frame_recovery(e: &[u8]) -> Framed
+fn frame_recovery(e: &[u8]) -> Option<Event>
     ensures { (n : ℕ) → Answers (body_in of_recovery n e.now) n result e.now }
 {
     if e.len() != Event::RECOVERY_SIZE {
-        return Framed::Bad;
+        return None;
     }
-    Framed::Good(Event::Recovery)
+    Some(Event::Recovery)
 }
 
 // Whether the length bytes and the version are right. There is a kind byte then.
@@ -139,13 +132,13 @@ fn head_ok(e: &[u8]) -> bool
     num8(e, Event::VERSION_AT) == VERSION
 }
 
-// The event that the bytes frame for a server of this many.
-pub fn framed_event(e: &[u8], servers: u8) -> Framed
+// The event that the bytes frame for a server of this many, its ranges not looked at; or none.
+pub fn framed_event(e: &[u8], servers: u8) -> Option<Event>
     ensures answers { Answers (framed_in servers e.now) servers result e.now }
     ensures bytes { Bytes e.now }
 {
     if !head_ok(e) {
-        return Framed::Bad;
+        return None;
     }
     match num8(e, Event::KIND_AT) {
         Event::ACTION => frame_action(e),
@@ -156,6 +149,6 @@ pub fn framed_event(e: &[u8], servers: u8) -> Framed
         Event::TRANSITIONAL => frame_transitional(e),
         Event::REQUEST => frame_request(e),
         Event::RECOVERY => frame_recovery(e),
-        _ => Framed::Bad,
+        _ => None,
     }
 }

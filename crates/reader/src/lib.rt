@@ -1,4 +1,4 @@
-// The reader: what an event's bytes say to a server, or the number that they are refused with.
+// The reader: what an event's bytes say to a server, or why they are refused.
 #![tactic(auto)]
 
 ghost use Rattle.std.specs.Prelude.{◌≡◌, List, ℕ};
@@ -12,7 +12,7 @@ ghost use Rattle.reader.specs.Reading.{Readable, JudgesAction, numbers_ok, lists
 
 pub mod frame; // frame.rt: the frame of an event
 
-use frame::{Framed, framed_event};
+use frame::framed_event;
 use record::events::{ActionAt, Event, StateAt, StateHead};
 use record::lists::ids_ok;
 use record::range::{
@@ -20,21 +20,7 @@ use record::range::{
     status_ok,
 };
 use record::{Context, State};
-use refusals::{BAD_RECORD, OUT_OF_RANGE};
-
-// The event, or the number that it is refused with.
-#[derive(Clone, Copy)]
-pub enum Reading {
-    Good(Event),
-    Refused(u8),
-}
-
-// Its two numbers, each in a byte.
-impl Reading {
-    pub const BAD_RECORD: u8 = BAD_RECORD as u8;
-
-    pub const OUT_OF_RANGE: u8 = OUT_OF_RANGE as u8;
-}
+use refusals::Refusal;
 
 fn action_ok(c: Context, a: ActionAt) -> bool
     requires { ContextIn c }
@@ -154,19 +140,18 @@ fn event_ok(c: Context, v: Event, e: &[u8]) -> bool
 }
 
 // What an event's bytes say to a server with this context: "bad length, version or kind" first, then ranges.
-pub fn read(c: Context, e: &[u8]) -> Reading
+pub fn read(c: Context, e: &[u8]) -> Result<Event, Refusal>
     ensures e_value { meaning result e.now ≡ read_of (context_of c) e.now }
     ensures placed { placed c result e.now }
 {
-    let f = framed_event(e, c.servers);
-    let Framed::Good(v) = f else {
-        return Reading::Refused(Reading::BAD_RECORD);
+    let Some(v) = framed_event(e, c.servers) else {
+        return Err(Refusal::BadRecord);
     };
     if !context_ok(c) {
-        return Reading::Refused(Reading::OUT_OF_RANGE);
+        return Err(Refusal::OutOfRange);
     }
     if !event_ok(c, v, e) {
-        return Reading::Refused(Reading::OUT_OF_RANGE);
+        return Err(Refusal::OutOfRange);
     }
-    Reading::Good(v)
+    Ok(v)
 }

@@ -7,7 +7,7 @@ use Rattle.base.specs.Sets.{inside}
 use Rattle.format.specs.Limits.{most_index_limit}
 use Rattle.format.specs.Places.{cut_size}
 use Rattle.format.specs.Types.{Action, Context}
-use Rattle.format.specs.Range.{context_ok, ids_ok}
+use Rattle.format.specs.Range.{sizes_ok, context_ok, ids_ok}
 use Rattle.format.specs.Read.{ids_at}
 use Rattle.replication.specs.Machine.Types.{Non_prim, Exchange_states, Exchange_actions, Un}
 use Rattle.replication.specs.Machine.Colours.{of_creator}
@@ -15,7 +15,7 @@ use Rattle.record.specs.Context.{reading_context, context_of, ContextIn}
 use Rattle.record.specs.declared.Context.{Context as CodeContext}
 use Rattle.record.specs.declared.State.{State}
 use Rattle.image.specs.Layout.{the_cuts, the_noted, the_states, the_yellow, the_own, the_queue, offset, state_length}
-use Rattle.image.specs.Decode.{actions_at}
+use Rattle.image.specs.Decode.{servers_in, quota_in, actions_at}
 use Rattle.image.specs.Header.{header_in, mode_number}
 use Rattle.state_check.specs.Slots.{queue_fits, own_fits, noted_fit}
 use Rattle.state_check.specs.Tally.{quotas_fit}
@@ -105,6 +105,10 @@ context_in b = context_of (reading_context (header_in b))
 
 unfoldable pub checks : List ℕ → Bool
 checks b = checks_of (context_in b) (header_in b) b
+
+-- The numbers of servers and the quota that the bytes b say are in range.
+abbrev pub sizes_in_range : List ℕ → Bool
+sizes_in_range b = sizes_ok (servers_in b) (quota_in b)
 
 -- ---- what the code rests on
 

@@ -4,6 +4,7 @@ use mathlib.Core.Path.{◌≡◌, refl, sym, ap, ◌∙◌}
 use mathlib.Core.Bool.{Bool, true, false, not}
 use mathlib.Core.List.{List, [], ◌∷◌}
 use native.Mathlib.Omega.{arith}
+use Rattle.std.specs.Prelude.{Some, None}
 use lib.ListN.{length}
 use Rattle.base.specs.Bytes.{bytes_of}
 use Rattle.base.proofs.BytesLaws.{bytes_length}
@@ -19,7 +20,6 @@ use Rattle.format.specs.Write.{action_bytes, write, length_of}
 use Rattle.format.proofs.Lengths.{write_length}
 use Rattle.record.specs.declared.ActionHead.{ActionHead}
 use Rattle.record.specs.Values.{action_of}
-use Rattle.writer.specs.declared.records.Written.TheVariants.{Next, Full}
 use Rattle.writer.specs.Blocks.{frame_bytes, opening_bytes}
 use Rattle.writer.specs.Written.{put, put_of}
 use Rattle.writer.proofs.RecordBytes.{frame_length, opening_length, cpc_bytes, action_bytes_lem, retransmission_bytes}
@@ -59,11 +59,11 @@ module _ (s s₁ s₂ s₃ : List ℕ) where
 -- ---- the bytes b at the front of the rest s
 
 module _ (b s : List ℕ) where
-  pub put_full : length s < length b → put_of Full s ≡ put b s
+  pub put_full : length s < length b → put_of None s ≡ put b s
   unfolding put_of put
   put_full h = pick_gt (length b) (length s) _ _ _ h refl
 
-  pub put_next : (n : ℕ) (s₁ : List ℕ) → length b ≤ length s → n ≡ length b → s₁ ≡ patched 0 b s → put_of (Next n) s₁ ≡ put b s
+  pub put_next : (n : ℕ) (s₁ : List ℕ) → length b ≤ length s → n ≡ length b → s₁ ≡ patched 0 b s → put_of (Some n) s₁ ≡ put b s
   unfolding put_of put
   put_next n s₁ h e f = rw (e, f, over_front b s) (pick_le (length b) (length s) _ _ _ h refl)
 
@@ -74,11 +74,11 @@ module _ (s : List ℕ) (sender configuration : ℕ) where
   unfolding length_of
   cpc_size_lem = write_length (cpc sender configuration)
 
-  pub cpc_full : length s < cpc_size → put_of Full s ≡ put (write (cpc sender configuration)) s
+  pub cpc_full : length s < cpc_size → put_of None s ≡ put (write (cpc sender configuration)) s
   cpc_full h = put_full _ s (omega (arith, cpc_size_lem))
 
   pub cpc_next : (s₁ : List ℕ) → cpc_size ≤ length s → s₁ ≡ patched 0 (opening_bytes (cpc_size - length_size) (kind_number of_cpc) sender configuration) s
-      → put_of (Next cpc_size) s₁ ≡ put (write (cpc sender configuration)) s
+      → put_of (Some cpc_size) s₁ ≡ put (write (cpc sender configuration)) s
   cpc_next s₁ h e = put_next _ s cpc_size s₁ (omega (arith, cpc_size_lem)) (sym cpc_size_lem) (e ∙ ap (λ (l : List ℕ). patched 0 l s) (cpc_bytes sender configuration))
 
 -- ---- action and retransmission: t is what `fits` answered of the head's size and the payload's
@@ -122,11 +122,11 @@ module _ (h : ActionHead) (p s : List ℕ) (t : Bool) where
   action_size_lem = write_length (action (action_of h p))
 
   module _ (e : t ≡ (action_size + length p ≤? length s)) where
-    pub action_full : not t ≡ true → put_of Full s ≡ put (write (action (action_of h p))) s
+    pub action_full : not t ≡ true → put_of None s ≡ put (write (action (action_of h p))) s
     action_full f = put_full _ s (omega (arith, action_size_lem, said_full action_size (length p) (length s) t e f))
 
     pub action_next : (s₁ s₂ : List ℕ) → not t ≡ false → s₁ ≡ patched 0 (frame_bytes (action_size - length_size + length p % 65536) (kind_number of_action)) s
-        → s₂ ≡ patched at_body body s₁ → put_of (Next (action_size + length p)) s₂ ≡ put (write (action (action_of h p))) s
+        → s₂ ≡ patched at_body body s₁ → put_of (Some (action_size + length p)) s₂ ≡ put (write (action (action_of h p))) s
     action_next s₁ s₂ f g i =
         put_next _ s _ s₂ (omega (arith, action_size_lem, said_room action_size (length p) (length s) t e f)) (sym action_size_lem)
         (next_block 0 at_body _ body s s₁ s₂ (omega arith) g i (omega (arith, frame_length (action_size - length_size + length p % 65536) (kind_number of_action))) ∙ ap (λ (l : List ℕ). patched 0 l s) (action_bytes_lem h p))
@@ -137,12 +137,12 @@ module _ (h : ActionHead) (p s : List ℕ) (t : Bool) where
     retransmission_size_lem = write_length (retransmission sender position (action_of h p))
 
     module _ (e : t ≡ (retransmission_size + length p ≤? length s)) where
-      pub retransmission_full : not t ≡ true → put_of Full s ≡ put (write (retransmission sender position (action_of h p))) s
+      pub retransmission_full : not t ≡ true → put_of None s ≡ put (write (retransmission sender position (action_of h p))) s
       retransmission_full f = put_full _ s (omega (arith, retransmission_size_lem, said_full retransmission_size (length p) (length s) t e f))
 
       pub retransmission_next : (s₁ s₂ : List ℕ) → not t ≡ false
           → s₁ ≡ patched 0 (opening_bytes (retransmission_size - length_size + length p % 65536) (kind_number of_retransmission) sender position) s
-          → s₂ ≡ patched cpc_size body s₁ → put_of (Next (retransmission_size + length p)) s₂ ≡ put (write (retransmission sender position (action_of h p))) s
+          → s₂ ≡ patched cpc_size body s₁ → put_of (Some (retransmission_size + length p)) s₂ ≡ put (write (retransmission sender position (action_of h p))) s
       retransmission_next s₁ s₂ f g i =
           put_next _ s _ s₂ (omega (arith, retransmission_size_lem, said_room retransmission_size (length p) (length s) t e f)) (sym retransmission_size_lem)
           (next_block 0 cpc_size _ body s s₁ s₂ (omega arith) g i (omega (arith, opening_length (retransmission_size - length_size + length p % 65536) (kind_number of_retransmission) sender position))

@@ -5,6 +5,7 @@ use mathlib.Core.List.{List, [], ◌∷◌, ◌++◌}
 use native.Mathlib.Omega.{arith}
 use mir.Val.{Fits}
 use mir.Syntax.{w8}
+use Rattle.std.specs.Prelude.{Some, None}
 use lib.ListN.{length, get_or, take, length-append}
 use lib.Seq.{length-take-le}
 use Rattle.base.specs.Tests.{◌≤?◌}
@@ -21,7 +22,6 @@ use Rattle.format.proofs.Lengths.{cuts_length, ids_length, primary_length, mark_
 use Rattle.format.proofs.Writing.{cuts_written, ids_written, ids_number}
 use Rattle.record.specs.declared.events.StateHead.{StateHead}
 use Rattle.record.specs.Values.{primary_of, mark_of, state_of}
-use Rattle.writer.specs.declared.records.Written.TheVariants.{Next, Full}
 use Rattle.writer.specs.Blocks.{opening_bytes, yellow_head_bytes, standing_bytes, lists_size, StateRoom}
 use Rattle.writer.specs.Written.{put, put_of, enough, put_state}
 use Rattle.writer.proofs.RecordBytes.{opening_length, standing_length, state_bytes_lem}
@@ -112,11 +112,11 @@ module _ (h : StateHead) (cuts ids s : List ℕ) where
   state_size_lem =
       write_length (state (state_of h cuts 0 ids 0)) ∙ rw (numbers_length 2 h.servers cuts 0, ids_number h.yellow_count ids 0) (omega arith)
 
-  pub few_cuts : length cuts < 2 * h.servers → put_of Full s ≡ put_state h cuts ids s
+  pub few_cuts : length cuts < 2 * h.servers → put_of None s ≡ put_state h cuts ids s
   unfolding put_state put_of
   few_cuts k = pick_no (enough h (length cuts) (length ids)) _ _ _ (sym (and_no (2 * h.servers ≤? length cuts) _ (le_no _ _ k))) refl
 
-  pub few_ids : 2 * h.servers ≤ length cuts → length ids < id_size * h.yellow_count → put_of Full s ≡ put_state h cuts ids s
+  pub few_ids : 2 * h.servers ≤ length cuts → length ids < id_size * h.yellow_count → put_of None s ≡ put_state h cuts ids s
   unfolding put_state put_of
   few_ids k j = pick_no (enough h (length cuts) (length ids)) _ _ _ (sym (and_yes _ _ _ (le_yes _ _ k) (sym (le_no _ _ j)))) refl
 
@@ -125,9 +125,9 @@ module _ (h : StateHead) (cuts ids s : List ℕ) where
     unfolding put_state
     given z e = pick_yes (enough h (length cuts) (length ids)) z _ _ (both_yes _ _ (le_yes _ _ k) (le_yes _ _ j)) e
 
-    pub state_full : length s < state_head_size + lists_size h → put_of Full s ≡ put_state h cuts ids s
+    pub state_full : length s < state_head_size + lists_size h → put_of None s ≡ put_state h cuts ids s
     state_full l = given _ (put_full written s (omega (arith, state_size_lem)))
 
     pub state_next : (s₁ : List ℕ) → state_head_size + lists_size h ≤ length s → s₁ ≡ patched 0 written s
-        → put_of (Next (state_head_size + lists_size h)) s₁ ≡ put_state h cuts ids s
+        → put_of (Some (state_head_size + lists_size h)) s₁ ≡ put_state h cuts ids s
     state_next s₁ l e = given _ (put_next written s _ s₁ (omega (arith, state_size_lem)) (sym state_size_lem) e)

@@ -14,12 +14,11 @@ use Rattle.format.specs.Range.{record_ok}
 use Rattle.format.specs.Read.{read}
 use Rattle.format.specs.Write.{write}
 use Rattle.format.proofs.RoundTrip.{read_written}
-use Rattle.writer.specs.declared.records.Written.{Written}
-use Rattle.writer.specs.declared.records.Written.TheVariants.{Next}
+use Rattle.std.specs.Prelude.{Option, Some}
 use Rattle.writer.specs.Written.{Put, next, full, put, put_of}
 
--- What a writer that answers `Next` ensures, as a put.
-pub answer_next : (w : Written) (z : Put) (n : ℕ) (rest : List ℕ) → put_of w rest ≡ z → w ≡ Next n → z ≡ next n rest
+-- What a writer that answers `Some` ensures, as a put.
+pub answer_next : (w : Option ℕ) (z : Put) (n : ℕ) (rest : List ℕ) → put_of w rest ≡ z → w ≡ Some n → z ≡ next n rest
 unfolding put_of
 answer_next w z n rest e f = sym e ∙ rw f
 

@@ -1,6 +1,6 @@
 -- What a writer leaves in the outgoing buffer's unused rest: a record's bytes at its front.
 -- Document 02, K3: "writing one changes only its own bytes there".
-use Rattle.std.specs.Prelude.{ℕ, ◌*◌, ◌≡◌, Bool, List, length}
+use Rattle.std.specs.Prelude.{ℕ, ◌*◌, ◌≡◌, Bool, List, length, Option, Some, None}
 use Rattle.base.specs.Tests.{◌and◌, ◌≤?◌, pick}
 use Rattle.base.specs.Bytes.{over}
 use Rattle.format.specs.Places.{cut_size, id_size}
@@ -8,8 +8,6 @@ use Rattle.format.specs.Types.{State, state}
 use Rattle.format.specs.Write.{write}
 use Rattle.record.specs.declared.events.StateHead.{StateHead}
 use Rattle.record.specs.Values.{state_of}
-use Rattle.writer.specs.declared.records.Written.{Written}
-use Rattle.writer.specs.declared.records.Written.TheVariants.{Next, Full}
 
 -- A rest after a writer: how many bytes the record has, so that the next one goes behind them, or no room.
 pub data Put : Type 0 where
@@ -21,12 +19,12 @@ unfoldable pub put : (b rest : List ℕ) → Put
 put b rest = pick (length b ≤? length rest) (next (length b) (over b rest)) (full rest)
 
 -- A writer's answer, with the rest that it leaves.
-unfoldable pub put_of : Written → List ℕ → Put
-put_of (Next n) s = next n s
-put_of Full s = full s
+unfoldable pub put_of : Option ℕ → List ℕ → Put
+put_of (Some n) s = next n s
+put_of None s = full s
 
 -- What a writer of the bytes b answers, and the rest before and after.
-abbrev pub Puts : List ℕ → Written → (old new : List ℕ) → Type 0
+abbrev pub Puts : List ℕ → Option ℕ → (old new : List ℕ) → Type 0
 Puts b r old new = put_of r new ≡ put b old
 
 -- A State whose cuts and ids are the first bytes given.

@@ -1,5 +1,6 @@
 // Writers of the records that the engine sends. Each takes the outgoing buffer's unused rest and writes its record at the front of it,
-// number by number.
+// number by number. It answers how many bytes the record has, so that the next one goes behind them, or none where there is no room: then the
+// rest is as it was.
 ghost use Rattle.std.specs.Prelude.{◌≡◌, ◌+◌, ◌≤◌, length};
 ghost use Rattle.base.specs.Patched.{patched};
 ghost use Rattle.base.specs.Tests.{◌≤?◌};
@@ -15,13 +16,6 @@ use octets::blocks::copy;
 use octets::numbers::{put_number, put8, put32};
 use record::events::{Event, StateHead, VERSION};
 use record::{ActionHead, State};
-
-// How many bytes the record has, so that the next one goes behind them; or no room: then the rest is as it was.
-#[derive(Clone, Copy)]
-pub enum Written {
-    Next(usize),
-    Full,
-}
 
 // What the length bytes count of a record of each kind, but payload, cuts and ids.
 const ACTION_FOLLOWS: u32 = (Event::ACTION_SIZE - Event::LENGTH_SIZE) as u32;
@@ -66,28 +60,28 @@ fn put_opening(rest: &mut [u8], follows: u32, kind: u8, sender: u8, number: u32)
 }
 
 // Writes a CPC.
-pub fn write_cpc(rest: &mut [u8], sender: u8, configuration: u32) -> Written
+pub fn write_cpc(rest: &mut [u8], sender: u8, configuration: u32) -> Option<usize>
     ensures { Puts (write (cpc sender configuration)) result rest.old rest.new }
 {
     if rest.len() < Event::CPC_SIZE {
-        return Written::Full;
+        return None;
     }
     put_opening(rest, CPC_FOLLOWS, Event::CPC, sender, configuration);
-    Written::Next(Event::CPC_SIZE)
+    Some(Event::CPC_SIZE)
 }
 
 // Writes an action.
-pub fn write_action(rest: &mut [u8], head: ActionHead, payload: &[u8]) -> Written
+pub fn write_action(rest: &mut [u8], head: ActionHead, payload: &[u8]) -> Option<usize>
     ensures { Puts (write (action (action_of head payload.now))) result rest.old rest.new }
 {
     let size = payload.len();
     if !fits(rest.len(), Event::ACTION_SIZE, size) {
-        return Written::Full;
+        return None;
     }
     let follows = ACTION_FOLLOWS + (size % LENGTH_MODULUS) as u32;
     put_frame(rest, follows, Event::ACTION);
     put_body(rest, Event::BODY, head, payload);
-    Written::Next(Event::ACTION_SIZE + size)
+    Some(Event::ACTION_SIZE + size)
 }
 
 // Writes a retransmission of an action.
@@ -97,17 +91,17 @@ pub fn write_retransmission(
     position: u32,
     head: ActionHead,
     payload: &[u8],
-) -> Written
+) -> Option<usize>
     ensures { Puts (write (resent sender position head payload.now)) result rest.old rest.new }
 {
     let size = payload.len();
     if !fits(rest.len(), Event::RETRANSMISSION_SIZE, size) {
-        return Written::Full;
+        return None;
     }
     let follows = RETRANSMISSION_FOLLOWS + (size % LENGTH_MODULUS) as u32;
     put_opening(rest, follows, Event::RETRANSMISSION, sender, position);
     put_body(rest, Event::RESENT, head, payload);
-    Written::Next(Event::RETRANSMISSION_SIZE + size)
+    Some(Event::RETRANSMISSION_SIZE + size)
 }
 
 // What a State has behind its cuts, from `at` on, up to its ids.
@@ -141,21 +135,21 @@ fn put_state(rest: &mut [u8], head: StateHead, cuts: &[u8], ids: &[u8])
     copy(rest, StateHead::SIZE + n, &ids[..m]);
 }
 
-// Writes a State: `cuts` begins with its cuts, two bytes each, and `ids` with its yellow ids, three bytes each. Full too where these are too few.
-pub fn write_state(rest: &mut [u8], head: StateHead, cuts: &[u8], ids: &[u8]) -> Written
+// Writes a State: `cuts` begins with its cuts, two bytes each, and `ids` with its yellow ids, three bytes each. None too where these are too few.
+pub fn write_state(rest: &mut [u8], head: StateHead, cuts: &[u8], ids: &[u8]) -> Option<usize>
     ensures { put_of result rest.new ≡ put_state head cuts.now ids.now rest.old }
 {
     let n = State::CUT * (head.servers as usize);
     if cuts.len() < n {
-        return Written::Full;
+        return None;
     }
     let m = State::ID * (head.yellow_count as usize);
     if ids.len() < m {
-        return Written::Full;
+        return None;
     }
     if rest.len() < StateHead::SIZE + (n + m) {
-        return Written::Full;
+        return None;
     }
     put_state(rest, head, cuts, ids);
-    Written::Next(StateHead::SIZE + (n + m))
+    Some(StateHead::SIZE + (n + m))
 }

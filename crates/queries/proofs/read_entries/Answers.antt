@@ -1,12 +1,13 @@
 use Rattle.queries.proofs.ListingLaws.{brief_entries, refused_entries_lem, whole_queue, white_entries, past_entries, put_listed}
+use Rattle.queries.proofs.SummaryLaws.{above_zero}
 use borrow.Author.Rules.{rules}
-use Rattle.queries.proofs.green_entries.Goals as goal
+use Rattle.queries.proofs.read_entries.Goals as goal
 
 pub returns-then-entries-lt-MOST_ENTRY : goal.returns-then-entries-lt-MOST_ENTRY
 returns-then-entries-lt-MOST_ENTRY c = search (rules, brief_entries)
 
-pub returns-then-number-ne0 : goal.returns-then-number-ne0
-returns-then-number-ne0 c = search (rules, refused_entries_lem)
+pub returns-in_err-check_image : goal.returns-in_err-check_image
+returns-in_err-check_image c = search (rules, refused_entries_lem, above_zero)
 
 pub white_length-white-requires : goal.white_length-white-requires
 white_length-white-requires c = search (rules, whole_queue)
