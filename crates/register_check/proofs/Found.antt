@@ -28,6 +28,9 @@ use Rattle.pegs.specs.Outcome.{Found, register_number, position, not_found, foun
 use Rattle.pegs.proofs.Numbers.{not_there}
 use Rattle.pegs.proofs.Places.{found_at, found_low}
 use Rattle.pegs.proofs.ImageLaws.{number_zero, slots_count, slot_at_lem, count_most}
+use Rattle.register_check.specs.declared.refusing.RegisterRefusal.{RegisterRefusal}
+use Rattle.register_check.specs.declared.refusing.RegisterRefusal.TheVariants.{Buffer, PegThere, PegNotThere, NoOperation, BadRectangle, RegisterFull}
+use Rattle.register_check.specs.Numbers.{refused_number}
 use Rattle.register_check.specs.Answers.{located}
 use Rattle.register_check.specs.Search.{search_in}
 use Rattle.register_check.proofs.Held.{held_sorted}
@@ -64,6 +67,14 @@ refusal_some NotNow e = absurd (omega arith)
 refusal_some NotFromHere e = absurd (omega arith)
 refusal_some ShortBuffer e = absurd (omega arith)
 refusal_some BadState e = absurd (omega arith)
+
+pub refused_some : (g : RegisterRefusal) → refused_number g ≡ 0 → ⊥
+refused_some (Buffer f) e = refusal_some f e
+refused_some PegThere e = absurd (omega arith)
+refused_some PegNotThere e = absurd (omega arith)
+refused_some NoOperation e = absurd (omega arith)
+refused_some BadRectangle e = absurd (omega arith)
+refused_some RegisterFull e = absurd (omega arith)
 
 module _ (b m : List ℕ) (r : Found) where
   pub refused_found : (f : Refusal) (k : ℕ) → k ≡ refusal_number f → refusal_number f ≡ register_number b → r ≡ not_found k → r ≡ find_on b m

@@ -13,7 +13,7 @@ use Rattle.register_check.specs.declared.contents.Register.{Register}
 use Rattle.register_check.specs.declared.refusing.RegisterRefusal.{RegisterRefusal}
 use Rattle.register_check.specs.declared.refusing.RegisterRefusal.TheVariants.{Buffer, PegThere, PegNotThere, NoOperation, BadRectangle, RegisterFull}
 use Rattle.register_check.specs.Numbers.{refused_number}
-use Rattle.register_check.proofs.Found.{refusal_some}
+use Rattle.register_check.proofs.Found.{refusal_some, refused_some}
 use Rattle.register_queries.specs.Arguments.{held_number}
 use Rattle.base.specs.Tests.{◌=?◌}
 use Rattle.base.specs.Lists.{first_from}
@@ -70,15 +70,6 @@ module _ (a : Region) (s : Rectangle) (e : a ≡ Inside s) (t : Bool) (test : t 
   pub sides_bad : t ≡ false → 12 ≡ sides_number a
   unfolding sides_number
   sides_bad n = pick_no (sides_rise s) _ _ _ (sym test ∙ n) refl ∙ ap sides_number (sym e)
-
--- No refusal has the number 0.
-refused_some : (g : RegisterRefusal) → refused_number g ≡ 0 → ⊥
-refused_some (Buffer f) e = refusal_some f e
-refused_some PegThere e = absurd (omega arith)
-refused_some PegNotThere e = absurd (omega arith)
-refused_some NoOperation e = absurd (omega arith)
-refused_some BadRectangle e = absurd (omega arith)
-refused_some RegisterFull e = absurd (omega arith)
 
 module _ (a : Region) (r b : List ℕ) where
   left_as : (k : ℕ) → k ≡ region_number a r b → (k ≡ 0 → ⊥) → changed k b ≡ region_on a r b
