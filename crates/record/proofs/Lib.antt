@@ -5,3 +5,5 @@ pub mod Turns
 pub mod Made
 pub mod SetCode
 pub mod PartLaws
+pub mod Codes
+pub mod Chains

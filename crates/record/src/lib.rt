@@ -6,26 +6,30 @@ ghost use Rattle.format.specs.Limits.{most_servers_limit};
 ghost use Rattle.record.specs.Context.{reading_context};
 ghost use Rattle.format.specs.Types.{first_primary};
 ghost use Rattle.record.specs.Start.{start_of};
-ghost use Rattle.record.specs.Values.{last_of};
+ghost use Rattle.record.specs.Values.{id_in_head, last_of};
 
 pub mod sets; // sets.rt: sets of servers
 pub mod range; // range.rt: which numbers and sets are in range
 pub mod lists; // lists.rt: lists of ids in bytes
 pub mod events; // events.rt: an event that was read
 pub mod parts; // parts.rt: parts of a record, read where they lie
+pub mod modes; // modes.rt: the eight states, and their bytes
+pub mod kinds; // kinds.rt: the kinds of records, and their bytes
 
 use events::Event;
+pub use kinds::Kind;
+pub use modes::Mode;
 use sets::everyone;
 
 // The index of a primary component, and that of an attempt to create one: neither stands for the other.
-#[derive(Clone, Copy)]
+#[derive(Clone, Copy, Debug, PartialEq, Eq)]
 pub struct PrimaryIndex(pub u32);
 
-#[derive(Clone, Copy)]
+#[derive(Clone, Copy, Debug, PartialEq, Eq)]
 pub struct AttemptIndex(pub u32);
 
 // The last primary component that a server knows of.
-#[derive(Clone, Copy)]
+#[derive(Clone, Copy, Debug, PartialEq, Eq)]
 pub struct LastPrimary {
     pub index: PrimaryIndex,
     pub attempt: AttemptIndex,
@@ -53,7 +57,7 @@ impl LastPrimary {
 }
 
 // What a server stores of the primary component that it attempts to create.
-#[derive(Clone, Copy)]
+#[derive(Clone, Copy, Debug, PartialEq, Eq)]
 pub struct Mark {
     pub status: u8,
     pub index: PrimaryIndex,
@@ -74,8 +78,15 @@ impl Mark {
     pub const SIZE: usize = Mark::BITS + 1;
 }
 
+// The name of an action: which server created it, and the how many-th of that server it is.
+#[derive(Clone, Copy, Debug, PartialEq, Eq)]
+pub struct ActionId {
+    pub creator: u8,
+    pub index: u16,
+}
+
 // An action but its payload.
-#[derive(Clone, Copy)]
+#[derive(Clone, Copy, Debug, PartialEq, Eq)]
 pub struct ActionHead {
     pub creator: u8,
     pub index: u16,
@@ -84,6 +95,15 @@ pub struct ActionHead {
 }
 
 impl ActionHead {
+    pub fn id(self) -> ActionId
+        ensures { result ≡ id_in_head self }
+    {
+        ActionId {
+            creator: self.creator,
+            index: self.index,
+        }
+    }
+
     // Where the index lies in an id; then the creator's green and white length and the payload's length in an action.
     pub const INDEX: usize = 1;
 
@@ -156,7 +176,7 @@ impl State {
 
     pub const MOST_LENGTH: u32 = State::MOST_SERVERS as u32 * State::MOST_NUMBER as u32;
 
-    // The numbers of the eight states.
+    // The numbers of the eight states, as `Mode` has them. Goes when its users have gone over.
     pub const NON_PRIM: u8 = 0;
 
     pub const REG_PRIM: u8 = 1;
