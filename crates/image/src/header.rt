@@ -4,7 +4,7 @@ ghost use Rattle.base.specs.Patched.{patched};
 ghost use Rattle.replication.specs.Machine.Types.{Server};
 ghost use Rattle.replication.specs.Machine.Requests.{waiting};
 ghost use Rattle.replication.specs.Machine.WellFormed.{well_formed};
-ghost use Rattle.image.specs.Header.{header_of, header_in, membership_in, membership_bytes, counts_bytes, header_written};
+ghost use Rattle.image.specs.Header.{header_of, header_in, membership_bytes, counts_bytes, header_written};
 ghost use Rattle.image.specs.Layout.{header_size, at_queue_length};
 
 use octets::blocks::copy;
@@ -13,29 +13,12 @@ use record::parts::{last_at, mark_at};
 use record::{AttemptIndex, State};
 use writer::parts::{put_mark, put_primary, put_yellow_head};
 
-// The first ones: layout, sizes, state and configurations.
-#[derive(Clone, Copy)]
-pub struct Membership {
-    pub layout: u8,
-    pub servers: u8,
-    pub quota: u16,
-    pub me: u8,
-    pub mode: u8,
-    pub configuration_status: u8,
-    pub configuration_id: u32,
-    pub configuration_set: u8,
-    pub transitional_status: u8,
-    pub transitional_set: u8,
-    pub states: u8,
-    pub cpcs: u8,
-    pub come: u32,
-}
-
-fn load_membership(state: &[u8]) -> Membership
+// The state's numbers at the front of its buffer.
+pub fn load(state: &[u8]) -> State
     requires { header_size ≤ length state.now }
-    ensures { result ≡ membership_in state.now }
+    ensures { result ≡ header_in state.now }
 {
-    Membership {
+    State {
         layout: num8(state, State::AT_LAYOUT),
         servers: num8(state, State::AT_SERVERS),
         quota: num16(state, State::AT_QUOTA),
@@ -49,29 +32,6 @@ fn load_membership(state: &[u8]) -> Membership
         states: num8(state, State::AT_STATES),
         cpcs: num8(state, State::AT_CPCS),
         come: num32(state, State::AT_COME),
-    }
-}
-
-// The state's numbers at the front of its buffer.
-pub fn load(state: &[u8]) -> State
-    requires { header_size ≤ length state.now }
-    ensures { result ≡ header_in state.now }
-{
-    let m = load_membership(state);
-    State {
-        layout: m.layout,
-        servers: m.servers,
-        quota: m.quota,
-        me: m.me,
-        mode: m.mode,
-        configuration_status: m.configuration_status,
-        configuration_id: m.configuration_id,
-        configuration_set: m.configuration_set,
-        transitional_status: m.transitional_status,
-        transitional_set: m.transitional_set,
-        states: m.states,
-        cpcs: m.cpcs,
-        come: m.come,
         queue_length: num32(state, State::AT_QUEUE_LENGTH),
         green_count: num32(state, State::AT_GREEN_COUNT),
         numbered: num16(state, State::AT_NUMBERED),

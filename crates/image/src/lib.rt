@@ -3,6 +3,7 @@
 
 ghost use Rattle.std.specs.Prelude.{◌≡◌};
 ghost use Rattle.image.specs.Outcome.{lengths_of, started, start_on};
+ghost use Rattle.refusals.specs.Numbers.{outcome_number};
 
 pub mod header; // header.rt: the state's numbers in its buffer
 pub mod sizes; // sizes.rt: how long the buffers must be
@@ -11,7 +12,7 @@ pub mod starting; // starting.rt: the start in its buffer
 
 use record::State;
 use record::range::sizes_ok;
-use refusals::{OUT_OF_RANGE, SHORT_BUFFER};
+use refusals::Refusal;
 use sizes::{out_length, state_length};
 use starting::begin;
 
@@ -29,7 +30,7 @@ pub fn lengths_of(servers: u32, quota: u32) -> Lengths
 {
     if !sizes_ok(servers, quota) {
         return Lengths {
-            number: OUT_OF_RANGE,
+            number: u32::from(Refusal::OutOfRange),
             state: 0,
             out: 0,
         };
@@ -41,24 +42,23 @@ pub fn lengths_of(servers: u32, quota: u32) -> Lengths
     }
 }
 
-// Makes the start of server `me` in its buffer. 7 where the buffer is too short, 2 where a number is out of range: then it is
-// as before.
-pub fn start(state: &mut [u8], servers: u32, quota: u32, me: u32) -> u32
-    ensures { started result state.new ≡ start_on servers quota me state.old }
+// Makes the start of server `me` in its buffer, unless the buffer is too short, or a number is out of range: then it is as before.
+pub fn start(state: &mut [u8], servers: u32, quota: u32, me: u32) -> Result<(), Refusal>
+    ensures { started (outcome_number result) state.new ≡ start_on servers quota me state.old }
 {
     if !sizes_ok(servers, quota) {
         let least = state_length(State::FEWEST_SERVERS as u32, State::LEAST_QUOTA as u32);
         if state.len() < least as usize {
-            return SHORT_BUFFER;
+            return Err(Refusal::ShortBuffer);
         }
-        return OUT_OF_RANGE;
+        return Err(Refusal::OutOfRange);
     }
     if state.len() < state_length(servers, quota) as usize {
-        return SHORT_BUFFER;
+        return Err(Refusal::ShortBuffer);
     }
     if servers <= me {
-        return OUT_OF_RANGE;
+        return Err(Refusal::OutOfRange);
     }
     begin(state, servers as u8, quota as u16, me as u8);
-    0
+    Ok(())
 }

@@ -3,22 +3,22 @@ ghost use Rattle.std.specs.Prelude.{◌≡◌, ◌≤◌};
 ghost use Rattle.image.specs.Layout.{SizesIn, state_size, the_noted, the_states, the_yellow, the_own, the_queue, offset, most_states_at};
 ghost use Rattle.image.specs.Layout.{most_state_size, most_yellow_at, most_own_at};
 ghost use Rattle.image.specs.Counts.{place, CountsIn};
+ghost use Rattle.image.specs.Sections.{section_number};
 
 use super::sizes::{CUT, CUT_AND_NOTED, HEADER, ID, SLOT, STATE_HEAD};
 use octets::numbers::{num8, num16};
 use record::State;
 use record::range::product;
 
-// The sections that lists lie in, by their numbers.
-pub const THE_NOTED: u8 = 2;
-
-pub const THE_STATES: u8 = 3;
-
-pub const THE_YELLOW: u8 = 4;
-
-pub const THE_OWN: u8 = 5;
-
-pub const THE_QUEUE: u8 = 6;
+// The sections behind the cuts, in their order.
+#[derive(Clone, Copy, Debug, PartialEq, Eq)]
+pub enum Section {
+    Noted,
+    States,
+    Yellow,
+    Own,
+    Queue,
+}
 
 // The cuts begin behind the header.
 pub const CUTS: u32 = HEADER;
@@ -66,30 +66,24 @@ pub fn queue_at(n: u32, q: u32) -> u32
     own_at(n, q) + SLOT * q
 }
 
-// The section of this number, for n servers and the quota q.
-fn section_at(n: u32, q: u32, section: u8) -> u32
-    requires { SizesIn n q × (the_noted ≤ section) × (section ≤ the_queue) }
-    ensures { result ≡ offset n q section }
+// Where a section begins, for n servers and the quota q.
+fn section_at(n: u32, q: u32, section: Section) -> u32
+    requires { SizesIn n q }
+    ensures { result ≡ offset n q (section_number section) }
 {
-    if section == THE_NOTED {
-        return noted_at(n, q);
+    match section {
+        Section::Noted => noted_at(n, q),
+        Section::States => states_at(n, q),
+        Section::Yellow => yellow_at(n, q),
+        Section::Own => own_at(n, q),
+        Section::Queue => queue_at(n, q),
     }
-    if section == THE_STATES {
-        return states_at(n, q);
-    }
-    if section == THE_YELLOW {
-        return yellow_at(n, q);
-    }
-    if section == THE_OWN {
-        return own_at(n, q);
-    }
-    queue_at(n, q)
 }
 
-// Where the section of this number begins in the state.
-pub fn place_of(state: &[u8], section: u8) -> usize
-    requires { CountsIn state.now × (the_noted ≤ section) × (section ≤ the_queue) }
-    ensures { result ≡ place section state.now }
+// Where a section begins in the state.
+pub fn place_of(state: &[u8], section: Section) -> usize
+    requires { CountsIn state.now }
+    ensures { result ≡ place (section_number section) state.now }
 {
     section_at(
         num8(state, State::AT_SERVERS) as u32,
