@@ -17,9 +17,9 @@ use Rattle.image.specs.Outcome.{Result, step_on, state_number}
 use Rattle.step.specs.declared.Answer.{Answer}
 use Rattle.step.specs.Answers.{answered}
 use Rattle.burst.specs.declared.BurstAnswer.{BurstAnswer}
-use Rattle.burst.specs.declared.slices.Next.{Next}
-use Rattle.burst.specs.declared.slices.Next.TheVariants.{Event, Stop}
-use Rattle.burst.specs.Burst.{next_of, EndsIn, stop_number, Burst, stopped, ended, behind, silent, burst_from, burst_all, burst_on, stopped_behind, left}
+use Rattle.burst.specs.Next.{Next}
+use Rattle.burst.specs.Next.{Event, Stop}
+use Rattle.burst.specs.Burst.{next_of, EndsIn, Burst, stopped, ended, behind, silent, burst_from, burst_all, burst_on, stopped_behind, left}
 use Rattle.burst.proofs.KeptLaws.{step_kept, refused_left}
 use Rattle.burst.proofs.BurstLaws.{from_stop, going, from_event, after_refused, after_ended, after_silent, behind_none, behind_behind}
 
@@ -73,10 +73,8 @@ module _ (b₀ e o₀ b o : List ℕ) (n at : ℕ) (a : Along b₀ e o₀ b o n 
     next_is : next_of (eqb n 0) ahead ≡ x
     next_is = sym (is_next_lem ∙ ap (next_of (eqb n 0)) (take_all (length e - at) ahead (omega (arith, ahead_long))))
 
-    pub along_stops : (j k : ℕ) (r : BurstAnswer) → x ≡ Stop j → k ≡ stop_number x → r ≡ stopped_behind k n at → left r b o ≡ burst_all b₀ e o₀
-    unfolding stop_number
-    along_stops j k r h q t =
-        let same : k ≡ j = q ∙ ap stop_number h in
+    pub along_stops : (j k : ℕ) (r : BurstAnswer) → x ≡ Stop j → k ≡ j → r ≡ stopped_behind k n at → left r b o ≡ burst_all b₀ e o₀
+    along_stops j k r h same t =
         ap (λ (y : BurstAnswer). left y b o) t
         ∙ stopped_is k ∙ ap (λ (y : ℕ). behind n at (stopped y b o)) same
         ∙ whole_is (stopped j b o) (λ d l. from_stop d (eqb n 0) b ahead o j (next_is ∙ h))

@@ -9,8 +9,8 @@ use native.Mathlib.Decide.{ℕ_discrete}
 use lib.ListN.{take, drop}
 use Rattle.base.proofs.TestLaws.{not_both, pick_yes, pick_no, pick_eq, pick_ne, tests}
 use Rattle.image.specs.Outcome.{Result, step_on}
-use Rattle.burst.specs.declared.slices.Next.{Next}
-use Rattle.burst.specs.declared.slices.Next.TheVariants.{Event, Stop}
+use Rattle.burst.specs.Next.{Next}
+use Rattle.burst.specs.Next.{Event, Stop}
 use Rattle.burst.specs.Burst.{next_of, Burst, stopped, ended, behind, silent, after_step, by_next, burst_from}
 
 pub by_stop : {A : Type 0} (x : Next) (k : ℕ) (s t : ℕ → A) → x ≡ Stop k → by_next x s t ≡ s k

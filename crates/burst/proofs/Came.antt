@@ -11,7 +11,7 @@ use Rattle.base.proofs.TestLaws.{eq_no, pick_ne, pick_either}
 use Rattle.base.proofs.Branches.{and_true, and_false}
 use Rattle.daemons.specs.Sending.{cut_records}
 use Rattle.daemons.proofs.SendingLaws.{cut_short_lem, cut_front}
-use Rattle.burst.specs.declared.slices.Next.TheVariants.{Event, Stop}
+use Rattle.burst.specs.Next.{Event, Stop}
 use Rattle.burst.specs.Burst.{next_of}
 use Rattle.burst.specs.Calls.{next_event, came_by}
 use Rattle.burst.proofs.NextLaws.{Whole, whole_said}

@@ -16,7 +16,7 @@ use Rattle.daemons.specs.Buffers.{Buffers, source_in, step_in, kept_after}
 use Rattle.daemons.specs.Sending.{first_size}
 use Rattle.daemons.specs.Daemons.{Daemons, Lending, LongEnough, daemons_after, daemons_at}
 use Rattle.daemons.proofs.BufferLaws.{source_running}
-use Rattle.burst.specs.declared.slices.Next.TheVariants.{Event, Stop}
+use Rattle.burst.specs.Next.{Event, Stop}
 use Rattle.burst.specs.Burst.{next_of, Burst, stopped, ended, behind, silent, after_step, burst_from, burst_all, burst_on}
 use Rattle.burst.specs.Calls.{Call, together, before, last, refused, System, kept_at, place_of, ran_by, call_of}
 use Rattle.burst.specs.Daemons.{burst_in, kept_after_burst, came_in, called_after, entries_of, burst_daemons, LongEnoughFor, by_places}

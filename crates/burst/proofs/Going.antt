@@ -6,8 +6,8 @@ use mathlib.Core.List.{List}
 use native.Mathlib.Omega.{arith}
 use lib.ListN.{length, take, drop, length-drop}
 use Rattle.daemons.specs.Buffers.{is_recovery}
-use Rattle.burst.specs.declared.slices.Next.{Next}
-use Rattle.burst.specs.declared.slices.Next.TheVariants.{Event, Stop}
+use Rattle.burst.specs.Next.{Next}
+use Rattle.burst.specs.Next.{Event, Stop}
 use Rattle.burst.specs.Burst.{next_of}
 use Rattle.burst.specs.Calls.{IsStep}
 use Rattle.burst.proofs.NextLaws.{whole_event}

@@ -14,19 +14,11 @@ use Rattle.base.proofs.BytesLaws.{number_front, number2}
 use Rattle.format.specs.Places.{length_size, at_body}
 use Rattle.daemons.specs.Buffers.{is_recovery}
 use Rattle.daemons.specs.Sending.{first_size}
-use Rattle.burst.specs.declared.slices.Next.{Next}
-use Rattle.burst.specs.declared.slices.Next.TheVariants.{Event, Stop}
-use Rattle.burst.specs.Burst.{cut_short, next_of, EndsIn, stop_number}
+use Rattle.burst.specs.Next.{Next}
+use Rattle.burst.specs.Next.{Event, Stop}
+use Rattle.burst.specs.Burst.{cut_short, next_of, EndsIn}
 
 -- ---- what the code finds
-
-pub stop_is : (n : Next) (k : ℕ) → n ≡ Stop k → k ≡ stop_number n
-unfolding stop_number
-stop_is n k e = ap stop_number (sym e)
-
-pub event_is : (n : Next) (m : ℕ) → n ≡ Event m → 0 ≡ stop_number n
-unfolding stop_number
-event_is n m e = ap stop_number (sym e)
 
 pub cut_first : (f : Bool) → f ≡ true → Stop 1 ≡ cut_short f
 unfolding cut_short

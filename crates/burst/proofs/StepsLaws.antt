@@ -14,8 +14,8 @@ use Rattle.base.specs.Lists.{Each}
 use Rattle.image.specs.Outcome.{Result, refusal, step_on, state_number}
 use Rattle.daemons.specs.Buffers.{is_recovery}
 use Rattle.daemons.specs.Sending.{first_size}
-use Rattle.burst.specs.declared.slices.Next.{Next}
-use Rattle.burst.specs.declared.slices.Next.TheVariants.{Event, Stop}
+use Rattle.burst.specs.Next.{Next}
+use Rattle.burst.specs.Next.{Event, Stop}
 use Rattle.burst.specs.Burst.{next_of, Burst, stopped, ended, behind, silent, after_step, burst_from, burst_all, burst_on}
 use Rattle.burst.specs.Steps.{untouched, steps_after, Stops, unready, spoke, halted, refused, IsSteps, BurstIsSteps}
 use Rattle.burst.proofs.NextLaws.{Whole, whole_event, whole_said}

@@ -13,7 +13,7 @@ use Rattle.base.proofs.TestLaws.{pick_either, pick_eq, pick_ne}
 use Rattle.base.specs.Lists.{at}
 use Rattle.base.proofs.AtLaws.{none_some, some_same}
 use Rattle.daemons.specs.Sending.{first_size}
-use Rattle.burst.specs.declared.slices.Next.TheVariants.{Event, Stop}
+use Rattle.burst.specs.Next.{Event, Stop}
 use Rattle.burst.specs.Burst.{next_of}
 use Rattle.burst.specs.Calls.{before, last, refused}
 use Rattle.burst.proofs.NextLaws.{whole_event, stop_running}

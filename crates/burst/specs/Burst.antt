@@ -7,8 +7,8 @@ use Rattle.image.specs.Outcome.{Result, step_on, state_number}
 use Rattle.daemons.specs.Buffers.{is_recovery}
 use Rattle.daemons.specs.Sending.{first_size}
 use Rattle.burst.specs.declared.BurstAnswer.{BurstAnswer}
-use Rattle.burst.specs.declared.slices.Next.{Next}
-use Rattle.burst.specs.declared.slices.Next.TheVariants.{Event, Stop}
+use Rattle.burst.specs.Next.{Next}
+use Rattle.burst.specs.Next.{Event, Stop}
 
 -- ---- what comes next
 
@@ -29,11 +29,6 @@ next_of f e =
 unfoldable pub EndsIn : Next → List ℕ → Type 0
 EndsIn (Event m) e = (length_size ≤ m) × (m ≤ length e)
 EndsIn (Stop k) e = Unit {0}
-
--- The number of a stop; an event has none.
-unfoldable pub stop_number : Next → ℕ
-stop_number (Event m) = 0
-stop_number (Stop k) = k
 
 -- ---- the burst
 

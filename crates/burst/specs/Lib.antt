@@ -1,3 +1,4 @@
+pub mod Next
 pub mod Burst
 pub mod Steps
 pub mod Calls

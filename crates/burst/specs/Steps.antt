@@ -6,7 +6,7 @@ use Rattle.base.specs.Lists.{Each}
 use Rattle.image.specs.Outcome.{Result, refusal, step_on, state_number}
 use Rattle.daemons.specs.Buffers.{is_recovery}
 use Rattle.daemons.specs.Sending.{first_size}
-use Rattle.burst.specs.declared.slices.Next.TheVariants.{Event, Stop}
+use Rattle.burst.specs.Next.{Event, Stop}
 use Rattle.burst.specs.Burst.{next_of, Burst, silent, burst_on}
 
 -- Both buffers with nothing done yet.

@@ -4,15 +4,16 @@
 ghost use Rattle.std.specs.Prelude.{◌≡◌};
 ghost use Rattle.base.specs.Tests.{◌and◌, ◌=?◌};
 ghost use Rattle.image.specs.Outcome.{state_number};
+ghost use Rattle.step.specs.Answers.{taken_answer};
 ghost use Rattle.burst.specs.Burst.{burst_all, burst_on, stopped_behind, left};
 ghost use Rattle.burst.specs.Steps.{BurstIsSteps};
 ghost use Rattle.burst.specs.Claim.{BurstsFollow, BurstsAgree};
 
 pub mod slices; // slices.rt: what comes next in a slice
 
-use slices::{Next, next_in, stop_number};
-use state_check::state_number;
-use step::Answer;
+use slices::next_in;
+use state_check::check_buffers;
+use step::Taken;
 use step::taking::step;
 
 // The number of the event that the burst stopped at (0: none was refused), the store word of the last event taken and how many bytes of its records
@@ -43,13 +44,10 @@ impl BurstAnswer {
 }
 
 // Stored nothing and put out nothing.
-fn is_silent(a: Answer) -> bool
-    ensures { result ≡ (a.store =? 0 and a.sent =? 0) }
+fn is_silent(t: Taken) -> bool
+    ensures { result ≡ ((taken_answer t).store =? 0 and (taken_answer t).sent =? 0) }
 {
-    if a.store == 0 {
-        return a.sent == 0;
-    }
-    false
+    !t.store && t.sent == 0
 }
 
 // Over buffers whose number is 0: they stay such, so that no step checks them anew.
@@ -60,22 +58,23 @@ pub fn take_events(state: &mut [u8], events: &[u8], out: &mut [u8]) -> BurstAnsw
     let mut taken = 0;
     let mut at = 0;
     loop {
-        let next = next_in(&events[at..], taken == 0);
-        let Next::Event(size) = next else {
-            return BurstAnswer::stopped(stop_number(next), taken, at);
+        let size = match next_in(&events[at..], taken == 0) {
+            Ok(Some(size)) => size,
+            Ok(None) => return BurstAnswer::stopped(0, taken, at),
+            Err(refusal) => return BurstAnswer::stopped(u32::from(refusal), taken, at),
         };
         let end = at + size;
-        let a = step(state, &events[at..end], out);
-        if a.number != 0 {
-            return BurstAnswer::stopped(a.number, taken, at);
-        }
+        let t = match step(state, &events[at..end], out) {
+            Ok(t) => t,
+            Err(refusal) => return BurstAnswer::stopped(u32::from(refusal), taken, at),
+        };
         taken += 1;
         at = end;
-        if !is_silent(a) {
+        if !is_silent(t) {
             return BurstAnswer {
                 number: 0,
-                store: a.store,
-                sent: a.sent,
+                store: t.store as u32,
+                sent: t.sent,
                 events: taken,
                 bytes: at,
             };
@@ -87,11 +86,10 @@ pub fn take_events(state: &mut [u8], events: &[u8], out: &mut [u8]) -> BurstAnsw
 pub fn burst(state: &mut [u8], events: &[u8], out: &mut [u8]) -> BurstAnswer
     ensures { left result state.new out.new ≡ burst_on state.old events.now out.old }
 {
-    let number = state_number(state, out);
-    if number == 0 {
-        return take_events(state, events, out);
+    match check_buffers(state, out) {
+        Ok(()) => take_events(state, events, out),
+        Err(refusal) => BurstAnswer::stopped(u32::from(refusal), 0, 0),
     }
-    BurstAnswer::stopped(number, 0, 0)
 }
 
 // A burst is its single steps one after another. It does nothing: its contract is the theorem.

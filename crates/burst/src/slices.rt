@@ -1,36 +1,21 @@
 // What comes next in a slice of events one behind another.
 ghost use Rattle.std.specs.Prelude.{◌≡◌};
 ghost use Rattle.daemons.specs.Buffers.{is_recovery};
-ghost use Rattle.burst.specs.Burst.{cut_short, next_of, EndsIn, stop_number};
+ghost use Rattle.burst.specs.Burst.{cut_short, next_of, EndsIn};
+ghost use Rattle.burst.specs.Next.{next_as};
 
-use refusals::BAD_RECORD;
 use octets::numbers::num16;
 use record::events::{Event, VERSION};
-
-// An event of so many bytes, or the number with which the burst stops.
-#[derive(Clone, Copy)]
-pub enum Next {
-    Event(usize),
-    Stop(u32),
-}
-
-pub fn stop_number(n: Next) -> u32
-    ensures { result ≡ stop_number n }
-{
-    match n {
-        Next::Event(_) => 0,
-        Next::Stop(k) => k,
-    }
-}
+use refusals::Refusal;
 
 // "one cut short by the slice's end"
-fn cut_short(first: bool) -> Next
-    ensures { result ≡ cut_short first }
+fn cut_short(first: bool) -> Result<Option<usize>, Refusal>
+    ensures { next_as result ≡ cut_short first }
 {
     if first {
-        Next::Stop(BAD_RECORD)
+        Err(Refusal::BadRecord)
     } else {
-        Next::Stop(0)
+        Ok(None)
     }
 }
 
@@ -56,13 +41,13 @@ pub fn is_recovery(e: &[u8]) -> bool
     e[Event::KIND_AT] == Event::RECOVERY
 }
 
-// What comes next in the slice; whether it would stand first.
-pub fn next_in(e: &[u8], first: bool) -> Next
-    ensures value { result ≡ next_of first e.now }
-    ensures ends_in { EndsIn result e.now }
+// The size of the event that comes next in the slice, if one that may be taken does; whether it would stand first.
+pub fn next_in(e: &[u8], first: bool) -> Result<Option<usize>, Refusal>
+    ensures value { next_as result ≡ next_of first e.now }
+    ensures ends_in { EndsIn (next_as result) e.now }
 {
     if e.len() < 1 {
-        return Next::Stop(0);
+        return Ok(None);
     }
     if e.len() < Event::LENGTH_SIZE {
         return cut_short(first);
@@ -72,10 +57,10 @@ pub fn next_in(e: &[u8], first: bool) -> Next
         return cut_short(first);
     }
     if first {
-        return Next::Event(size);
+        return Ok(Some(size));
     }
     if is_recovery(&e[..size]) {
-        return Next::Stop(0);
+        return Ok(None);
     }
-    Next::Event(size)
+    Ok(Some(size))
 }

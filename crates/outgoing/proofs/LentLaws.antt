@@ -1,19 +1,16 @@
 -- What buffers that are lent with a state give, and a record put into the outgoing one.
-use Prim.Native.Nat.{ℕ, ◌+◌, ◌-◌, ◌≤◌, ◌<◌}
+use Prim.Native.Nat.{ℕ, ◌≤◌, ◌<◌}
 use mathlib.Core.Path.{◌≡◌, refl, sym, ap, subst, ◌∙◌}
 use mathlib.Core.List.{List, [], ◌∷◌, ◌++◌, append-nil, map, map-append}
 use native.Mathlib.Omega.{arith}
-use lib.ListN.{length, get_or, take, drop, length-drop}
+use lib.ListN.{length, get_or}
 use Rattle.base.specs.Bytes.{joined, over}
 use Rattle.base.proofs.BytesLaws.{joined_append}
 use Rattle.base.proofs.Occurs.{Occurs}
-use Rattle.base.proofs.Over.{rest_whole, rest_back}
-use Rattle.base.specs.Patched.{patched}
 use Rattle.base.proofs.TestLaws.{pick_le}
 use Rattle.format.specs.Types.{Record}
 use Rattle.format.specs.Write.{write, record_bytes}
-use Rattle.writer.specs.declared.records.Written.{Written}
-use Rattle.writer.specs.declared.records.Written.TheVariants.{Next, Full}
+use Rattle.std.specs.Prelude.{Option, Some, None}
 use Rattle.writer.specs.Written.{next, full, put, put_of}
 use Rattle.writer.proofs.WriterRoundTrip.{Fitted, answer_next, put_fitted}
 use Rattle.replication.specs.Machine.Types.{Server}
@@ -63,40 +60,16 @@ holds_part s b r k l =
 not_full : {A : Type 0} (n : ℕ) (x y : List ℕ) → next n x ≡ full y → A
 not_full n x y e = let z : ◌≡◌ {A = ℕ} 0 1 = cc in absurd (omega arith)
 
-module _ (x o o₁ : List ℕ) (w : Written) (e : put_of w o₁ ≡ put x o) where
+module _ (x o o₁ : List ℕ) (w : Option ℕ) (e : put_of w o₁ ≡ put x o) where
   -- Where there is room a writer does not answer that there is none.
-  pub put_room : {A : Type 0} → length x ≤ length o → w ≡ Full → A
+  pub put_room : {A : Type 0} → length x ≤ length o → w ≡ None → A
   unfolding put put_of
   put_room h f =
       not_full (length x) (over x o) o₁
-      (pick_le (length x) (length o) (next (length x) (over x o)) _ _ h refl ∙ sym e ∙ ap (λ (v : Written). put_of v o₁) f)
+      (pick_le (length x) (length o) (next (length x) (over x o)) _ _ h refl ∙ sym e ∙ ap (λ (v : Option ℕ). put_of v o₁) f)
 
-  pub put_done : (n : ℕ) → w ≡ Next n → Fitted x o n o₁
+  pub put_done : (n : ℕ) → w ≡ Some n → Fitted x o n o₁
   put_done n f = put_fitted x o o₁ n (answer_next w (put x o) n o₁ e f)
-
--- ---- the same from `at` on in the buffer o, of which the rest was lent: y is what the writer left there
-
--- The place behind the record, and the buffer o₁ once the rest is back.
-pub record Placed (x : List ℕ) (at : ℕ) (o : List ℕ) (n : ℕ) (o₁ : List ℕ) : Type 0 where
-  pub room : at + length x ≤ length o
-  pub sized : n ≡ length x
-  pub filled : o₁ ≡ patched at x o
-
-module _ (x o y : List ℕ) (at : ℕ) (w : Written) (h : at ≤ length o) (e : put_of w y ≡ put x (take (length o - at) (drop at o))) where
-  rest_put : put_of w y ≡ put x (drop at o)
-  rest_put = e ∙ ap (put x) (rest_whole o at)
-
-  pub rest_room : {A : Type 0} → at + length x ≤ length o → w ≡ Full → A
-  rest_room r f = put_room x (drop at o) y w rest_put (omega (arith, length-drop at o)) f
-
-  pub rest_done : (n : ℕ) → w ≡ Next n → Placed x at o n (take at o ++ (y ++ drop (length o - at) (drop at o)))
-  rest_done n f =
-      let done = put_done x (drop at o) y w rest_put n f in
-      record {
-        room = omega (arith, done.room, length-drop at o);
-        sized = done.sized;
-        filled = ap (λ (z : List ℕ). take at o ++ (z ++ drop (length o - at) (drop at o))) done.filled ∙ rest_back at x o;
-      }
 
 -- ---- records as bytes
 

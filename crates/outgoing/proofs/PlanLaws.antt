@@ -13,7 +13,6 @@ use Rattle.base.proofs.Comparable.{gather_all_append}
 use Rattle.base.specs.Lists.{gather, gather_all, above, below}
 use Rattle.base.specs.Tests.{pick}
 use Rattle.base.proofs.TestLaws.{pick_yes, pick_no}
-use Rattle.base.proofs.Over.{over_front}
 use Rattle.format.specs.Limits.{most_number_limit}
 use Rattle.format.specs.Types.{Record}
 use Rattle.record.specs.Values.{id_of}
@@ -39,7 +38,7 @@ use Rattle.exchange.specs.declared.decided.Part.{Part}
 use Rattle.outgoing.specs.Resending.{queue_in, at_position, as_red, greens_of, reds_of, Sends, Stated, PositionsIn, green_part}
 use Rattle.outgoing.specs.Resending.{red_part, red_parts, whole_part}
 use Rattle.outgoing.proofs.GatherLaws.{without_first, without_last}
-use Rattle.outgoing.proofs.ResendingLaws.{position_white, position_past}
+use Rattle.outgoing.proofs.ResendingLaws.{rest, restored, rest_length, position_white, position_past}
 use Rattle.outgoing.proofs.WalkLaws.{none_sent_at, sent_next}
 use Rattle.format.specs.Places.{most_retransmission}
 use Rattle.format.specs.Write.{record_bytes}
@@ -54,19 +53,20 @@ module _ (s : Server) (b : List ℕ) (r : Holds s b) where
 
 -- ---- whose part is what
 
-same_sent : (p r : ℕ) (xs ys : List Record) (o o₁ : List ℕ) → xs ≡ ys → Sends (length xs) xs p o o₁ r → Sends (length ys) ys p o o₁ r
-same_sent p r xs ys o o₁ e s = subst (λ (l : List Record). Sends (length l) l p o o₁ r) e s
+same_sent : (r : ℕ) (xs ys : List Record) (o o₁ : List ℕ) → xs ≡ ys → Sends (length xs) xs o o₁ r → Sends (length ys) ys o o₁ r
+same_sent r xs ys o o₁ e s = subst (λ (l : List Record). Sends (length l) l o o₁ r) e s
 
-same_room : (p : ℕ) (xs ys : List Record) (o : List ℕ) → xs ≡ ys → p + most_retransmission * length ys ≤ length o → p + most_retransmission * length xs ≤ length o
-same_room p xs ys o e h = omega (arith, ap length e)
+same_room : (xs ys : List Record) (o : List ℕ) → xs ≡ ys → most_retransmission * length ys ≤ length o → most_retransmission * length xs ≤ length o
+same_room xs ys o e h = omega (arith, ap length e)
 
 pub stated_some : (b : List ℕ) → Stated b → HoldsSome b
 stated_some b s = holds_some (decoded b) b s.holds
 
 -- ---- by position
 
-pub positions_in : (b : List ℕ) (low high l h : ℕ) → Stated b → l ≡ max low (white_in b) → h ≡ min high (length (greens_in b)) → PositionsIn l h b
-positions_in b low high l h s e f = record { queue = s.queue; unwhite = omega arith; green = omega arith }
+pub positions_in : (b : List ℕ) (low high white green l h : ℕ) → Stated b → white ≡ white_in b → green ≡ length (greens_in b) → l ≡ max low white
+    → h ≡ min high green → PositionsIn l h b
+positions_in b low high white green l h s w g e f = record { queue = s.queue; unwhite = omega arith; green = omega arith }
 
 -- White ones and those past the green list may be left out.
 module _ (b : List ℕ) (s : Stated b) (me low high : ℕ) where
@@ -97,25 +97,27 @@ module _ (b : List ℕ) (x : Part) (s : Stated b) (e : (t : Server) → Holds t 
   green_is me m =
       ap₂ {A = ℕ} {B = Part} {C = List Record} (λ k y. pick y.mine (greens_of k y.low y.high b) []) m greens
 
-  pub green_none : (me : ℕ) (o : List ℕ) → me ≡ number_at 1 b at_me → not x.mine ≡ true → Sends (length (green_part b)) (green_part b) 0 o o 0
+  pub green_none : (me : ℕ) (o : List ℕ) → me ≡ number_at 1 b at_me → not x.mine ≡ true → Sends (length (green_part b)) (green_part b) o o 0
   green_none me o m t =
       none_sent_at (green_part b)
-      (sym (pick_no x.mine [] (greens_of me x.low x.high b) [] (not-true x.mine t) refl ∙ green_is me m)) 0 o
+      (sym (pick_no x.mine [] (greens_of me x.low x.high b) [] (not-true x.mine t) refl ∙ green_is me m)) o
 
-  module _ (me l h : ℕ) (m : me ≡ number_at 1 b at_me) (t : not x.mine ≡ false) (f : l ≡ max x.low (white_in b)) (g : h ≡ min x.high (length (greens_in b))) where
+  module _ (me white green l h : ℕ) (m : me ≡ number_at 1 b at_me) (t : not x.mine ≡ false) (w : white ≡ white_in b) (n : green ≡ length (greens_in b))
+      (f : l ≡ max x.low white) (g : h ≡ min x.high green) where
     green_whole : greens_of me l h b ≡ green_part b
     green_whole =
         (λ i. greens_of me (f i) (g i) b)
+        ∙ (λ i. greens_of me (max x.low (w i)) (min x.high (n i)) b)
         ∙ positions_held b s me x.low x.high
         ∙ pick_yes x.mine _ (greens_of me x.low x.high b) [] (not-false x.mine t) refl
         ∙ green_is me m
 
-    pub green_room : (o : List ℕ) → 0 + most_retransmission * length (green_part b) ≤ length o → 0 + most_retransmission * length (greens_of me l h b) ≤ length o
-    green_room o k = same_room 0 (greens_of me l h b) (green_part b) o green_whole k
+    pub green_room : (o : List ℕ) → most_retransmission * length (green_part b) ≤ length o → most_retransmission * length (greens_of me l h b) ≤ length o
+    green_room o k = same_room (greens_of me l h b) (green_part b) o green_whole k
 
-    pub green_sent : (r : ℕ) (o o₁ : List ℕ) → Sends (length (greens_of me l h b)) (greens_of me l h b) 0 o o₁ r
-        → Sends (length (green_part b)) (green_part b) 0 o o₁ r
-    green_sent r o o₁ a = same_sent 0 r (greens_of me l h b) (green_part b) o o₁ green_whole a
+    pub green_sent : (r : ℕ) (o o₁ : List ℕ) → Sends (length (greens_of me l h b)) (greens_of me l h b) o o₁ r
+        → Sends (length (green_part b)) (green_part b) o o₁ r
+    green_sent r o o₁ a = same_sent r (greens_of me l h b) (green_part b) o o₁ green_whole a
 
 -- ---- by index
 
@@ -148,27 +150,27 @@ module _ (b : List ℕ) (c : ℕ) (x : Part) (e : (t : Server) → Holds t b →
   red_is me m =
       (λ i. pick (reds i).mine (gather (as_red (m i) (sym held i) c) (above (reds i).low (reds i).high)) [])
 
-  pub red_none : (me i : ℕ) (o : List ℕ) → me ≡ number_at 1 b at_me → not x.mine ≡ true → Sends (length (red_part b c)) (red_part b c) i o o i
-  red_none me i o m t =
-      none_sent_at (red_part b c) (sym (pick_no x.mine [] (reds_of me c x.low x.high b) [] (not-true x.mine t) refl ∙ red_is me m)) i o
+  pub red_none : (me : ℕ) (o : List ℕ) → me ≡ number_at 1 b at_me → not x.mine ≡ true → Sends (length (red_part b c)) (red_part b c) o o 0
+  red_none me o m t =
+      none_sent_at (red_part b c) (sym (pick_no x.mine [] (reds_of me c x.low x.high b) [] (not-true x.mine t) refl ∙ red_is me m)) o
 
-  module _ (me i : ℕ) (m : me ≡ number_at 1 b at_me) (t : not x.mine ≡ false) where
+  module _ (me : ℕ) (m : me ≡ number_at 1 b at_me) (t : not x.mine ≡ false) where
     red_whole : reds_of me c x.low x.high b ≡ red_part b c
     red_whole = pick_yes x.mine _ (reds_of me c x.low x.high b) [] (not-false x.mine t) refl ∙ red_is me m
 
-    pub red_room : (o : List ℕ) → i + most_retransmission * length (red_part b c) ≤ length o
-        → i + most_retransmission * length (reds_of me c x.low x.high b) ≤ length o
-    red_room o l = same_room i (reds_of me c x.low x.high b) (red_part b c) o red_whole l
+    pub part_room : (o : List ℕ) → most_retransmission * length (red_part b c) ≤ length o
+        → most_retransmission * length (reds_of me c x.low x.high b) ≤ length o
+    part_room o l = same_room (reds_of me c x.low x.high b) (red_part b c) o red_whole l
 
-    pub red_sent : (r : ℕ) (o o₁ : List ℕ) → Sends (length (reds_of me c x.low x.high b)) (reds_of me c x.low x.high b) i o o₁ r
-        → Sends (length (red_part b c)) (red_part b c) i o o₁ r
-    red_sent r o o₁ a = same_sent i r (reds_of me c x.low x.high b) (red_part b c) o o₁ red_whole a
+    pub red_sent : (r : ℕ) (o o₁ : List ℕ) → Sends (length (reds_of me c x.low x.high b)) (reds_of me c x.low x.high b) o o₁ r
+        → Sends (length (red_part b c)) (red_part b c) o o₁ r
+    red_sent r o o₁ a = same_sent r (reds_of me c x.low x.high b) (red_part b c) o o₁ red_whole a
 
 -- ---- every creator
 
-pub reds_start : (b : List ℕ) (i : ℕ) (o : List ℕ) → Sends (length (red_parts b 0)) (red_parts b 0) i o o i
+pub reds_start : (b o : List ℕ) → Sends (length (red_parts b 0)) (red_parts b 0) o o 0
 unfolding red_parts gather_all below
-reds_start b i o = none_sent_at (red_parts b 0) refl i o
+reds_start b o = none_sent_at (red_parts b 0) refl o
 
 pub reds_creator : (b : List ℕ) (c n : ℕ) → n ≡ number_at 1 b at_servers → c < n → c < servers_in b
 unfolding servers_in
@@ -199,24 +201,22 @@ parts_count b c (suc n) h = go (dec_lt c (suc n)) (λ l. parts_count b c n l)
     go (yes l) less = omega (arith, less (omega arith), more_count b n, ap (λ (m : ℕ). length (red_parts b m)) next)
     go (no l) less = let e : c ≡ suc n = omega arith in omega (arith, ap (λ (m : ℕ). length (red_parts b m)) e)
 
-pub reds_room : (b : List ℕ) (c n i j : ℕ) (o o₁ : List ℕ) → n ≡ number_at 1 b at_servers → c < n
-    → i + most_retransmission * length (red_parts b (servers_in b)) ≤ length o
-    → Sends (length (red_parts b c)) (red_parts b c) i o o₁ j → j + most_retransmission * length (red_part b c) ≤ length o₁
-reds_room b c n i j o o₁ e h l a =
-    omega (arith, a.most, a.size, more_count b c, parts_count b (c + 1) (servers_in b) (omega (arith, reds_creator b c n e h)))
+module _ (b : List ℕ) (c j : ℕ) (o o₁ : List ℕ) (a : Sends (length (red_parts b c)) (red_parts b c) o o₁ j) where
+  pub reds_room : (n : ℕ) → n ≡ number_at 1 b at_servers → c < n → most_retransmission * length (red_parts b (servers_in b)) ≤ length o
+      → most_retransmission * length (red_part b c) ≤ length (rest j o₁)
+  reds_room n e h l =
+      let long = rest_length j o₁ in
+      omega (arith, a.most, a.size, long, more_count b c, parts_count b (c + 1) (servers_in b) (omega (arith, reds_creator b c n e h)))
 
-pub reds_again : (b : List ℕ) (c i j r : ℕ) (o o₁ o₂ : List ℕ) → i + most_retransmission * length (red_parts b (servers_in b)) ≤ length o
-    → Sends (length (red_parts b c)) (red_parts b c) i o o₁ j → Sends (length (red_part b c)) (red_part b c) j o₁ o₂ r
-    → Sends (length (red_parts b (c + 1))) (red_parts b (c + 1)) i o o₂ r
-reds_again b c i j r o o₁ o₂ l a d =
-    same_sent i r (red_parts b c ++ red_part b c) (red_parts b (c + 1)) o o₂ (parts_more b c)
-    (sent_next i j r (red_parts b c) (red_part b c) o o₁ o₂ (omega arith) a d)
+  pub reds_again : (r : ℕ) (y : List ℕ) → Sends (length (red_part b c)) (red_part b c) (rest j o₁) y r
+      → Sends (length (red_parts b (c + 1))) (red_parts b (c + 1)) o (restored j o₁ y) (j + r)
+  reds_again r y d =
+      same_sent (j + r) (red_parts b c ++ red_part b c) (red_parts b (c + 1)) o (restored j o₁ y) (parts_more b c)
+      (sent_next j r (red_parts b c) (red_part b c) o o₁ y a d)
 
-pub reds_end : (b : List ℕ) (c n i r : ℕ) (o o₁ : List ℕ) → n ≡ number_at 1 b at_servers → c ≤ n → n ≤ c
-    → Sends (length (red_parts b c)) (red_parts b c) i o o₁ r
-    → Sends (length (red_parts b (servers_in b))) (red_parts b (servers_in b)) i o o₁ r
-unfolding servers_in
-reds_end b c n i r o o₁ e h l a = subst (λ (m : ℕ). Sends (length (red_parts b m)) (red_parts b m) i o o₁ r) (omega arith) a
+  pub reds_end : (n : ℕ) → n ≡ number_at 1 b at_servers → c ≤ n → n ≤ c → Sends (length (red_parts b (servers_in b))) (red_parts b (servers_in b)) o o₁ j
+  unfolding servers_in
+  reds_end n e h l = subst (λ (m : ℕ). Sends (length (red_parts b m)) (red_parts b m) o o₁ j) (omega arith) a
 
 -- ---- the whole
 
@@ -224,18 +224,18 @@ whole_count : (b : List ℕ) → length (whole_part b) ≡ length (green_part b)
 unfolding whole_part
 whole_count b = length-append (green_part b) (red_parts b (servers_in b))
 
-pub green_first : (b o : List ℕ) → 0 + most_retransmission * length (whole_part b) ≤ length o → 0 + most_retransmission * length (green_part b) ≤ length o
+pub green_first : (b o : List ℕ) → most_retransmission * length (whole_part b) ≤ length o → most_retransmission * length (green_part b) ≤ length o
 green_first b o h = omega (arith, whole_count b)
 
-pub reds_behind : (b : List ℕ) (i : ℕ) (o o₁ : List ℕ) → 0 + most_retransmission * length (whole_part b) ≤ length o
-    → Sends (length (green_part b)) (green_part b) 0 o o₁ i → i + most_retransmission * length (red_parts b (servers_in b)) ≤ length o₁
-reds_behind b i o o₁ h a = omega (arith, whole_count b, a.most, a.size)
+pub reds_behind : (b : List ℕ) (i : ℕ) (o o₁ : List ℕ) → most_retransmission * length (whole_part b) ≤ length o
+    → Sends (length (green_part b)) (green_part b) o o₁ i → most_retransmission * length (red_parts b (servers_in b)) ≤ length (rest i o₁)
+reds_behind b i o o₁ h a = let long = rest_length i o₁ in omega (arith, whole_count b, a.most, a.size, long)
 
-pub plan_sent : (b : List ℕ) (i r : ℕ) (o o₁ o₂ : List ℕ) → Sends (length (green_part b)) (green_part b) 0 o o₁ i
-    → Sends (length (red_parts b (servers_in b))) (red_parts b (servers_in b)) i o₁ o₂ r
-    → Sends (length (whole_part b)) (whole_part b) 0 o o₂ r
+pub plan_sent : (b : List ℕ) (i r : ℕ) (o o₁ y : List ℕ) → Sends (length (green_part b)) (green_part b) o o₁ i
+    → Sends (length (red_parts b (servers_in b))) (red_parts b (servers_in b)) (rest i o₁) y r
+    → Sends (length (whole_part b)) (whole_part b) o (restored i o₁ y) (i + r)
 unfolding whole_part
-plan_sent b i r o o₁ o₂ a d = sent_next 0 i r (green_part b) (red_parts b (servers_in b)) o o₁ o₂ (omega arith) a d
+plan_sent b i r o o₁ y a d = sent_next i r (green_part b) (red_parts b (servers_in b)) o o₁ y a d
 
 whole : (b : List ℕ) → whole_part b ≡ own_part (decoded b).servers (decoded b).me (decoded b).white (decoded b).log (collected (decoded b))
 unfolding whole_part green_part red_part red_parts own_part white_in decoded decoded_as
@@ -259,7 +259,7 @@ whole_held b s =
       ap₂ {A = ℕ} {B = ℕ} {C = ℕ} (λ n q. n * q) m.servers m.quota,
     )
 
-pub plan_room : (P : Server → Type 0) (b o : List ℕ) → LentSuch P b o → 0 + most_retransmission * length (whole_part b) ≤ length o
+pub plan_room : (P : Server → Type 0) (b o : List ℕ) → LentSuch P b o → most_retransmission * length (whole_part b) ≤ length o
 unfolding out_length
 plan_room P b o l =
     let m = numbers l.state b l.holds in
@@ -268,15 +268,15 @@ plan_room P b o l =
     omega (arith, whole_held b (lent_stated P b o l))
 
 pub part_fits : (P : Server → Type 0) (b : List ℕ) (r : ℕ) (o o₁ : List ℕ) → LentSuch P b o
-    → Sends (length (whole_part b)) (whole_part b) 0 o o₁ r → r < 4294967296
+    → Sends (length (whole_part b)) (whole_part b) o o₁ r → r < 4294967296
 part_fits P b r o o₁ l a = omega (arith, (holds_counts l.state b l.holds).most, a.most, whole_held b (lent_stated P b o l))
 
-module _ (b : List ℕ) (r : ℕ) (o o₁ : List ℕ) (a : Sends (length (whole_part b)) (whole_part b) 0 o o₁ r) (s : Server) (h : Holds s b) where
+module _ (b : List ℕ) (r : ℕ) (o o₁ : List ℕ) (a : Sends (length (whole_part b)) (whole_part b) o o₁ r) (s : Server) (h : Holds s b) where
   own : whole_part b ≡ own_part s.servers s.me s.white s.log (collected s)
   own = whole b ∙ ap (λ (t : Server). own_part t.servers t.me t.white t.log (collected t)) (holds_decoded s b h)
 
   pub part_length : r ≡ length (record_bytes (own_part s.servers s.me s.white s.log (collected s)))
-  part_length = omega (arith, a.place, ap (λ (xs : List Record). length (record_bytes xs)) own)
+  part_length = omega (arith, a.count, ap (λ (xs : List Record). length (record_bytes xs)) own)
 
   pub part_bytes : o₁ ≡ over (record_bytes (own_part s.servers s.me s.white s.log (collected s))) o
-  part_bytes = a.bytes ∙ over_front (record_bytes (whole_part b)) o ∙ ap (λ (xs : List Record). over (record_bytes xs) o) own
+  part_bytes = a.bytes ∙ ap (λ (xs : List Record). over (record_bytes xs) o) own

@@ -1,6 +1,6 @@
 -- The State that a server sends when a regular configuration comes.
 use Prim.Native.Nat.{ℕ, ◌+◌, ◌*◌, ◌-◌, ◌≤◌}
-use mathlib.Core.Path.{◌≡◌, sym, ap, ◌∙◌}
+use mathlib.Core.Path.{◌≡◌, refl, sym, ap, subst, ◌∙◌}
 use mathlib.Core.Bool.{true}
 use mathlib.Core.List.{List}
 use native.Mathlib.Nat.{mul-le-mul}
@@ -22,10 +22,11 @@ use Rattle.format.proofs.Fields.{cuts_read, ids_read}
 use Rattle.format.proofs.Lengths.{write_length}
 use Rattle.record.specs.declared.State as declared
 use Rattle.record.specs.declared.events.StateHead.{StateHead}
-use Rattle.writer.specs.declared.records.Written.{Written}
-use Rattle.writer.specs.declared.records.Written.TheVariants.{Next, Full}
+use Rattle.std.specs.Prelude.{Option, Some, None}
+use Rattle.std.specs.Option.{unwrap_or}
 use Rattle.record.specs.Values.{primary_of, mark_of, state_of, last_of}
 use Rattle.writer.specs.Written.{put, put_of, put_state}
+use Rattle.writer.proofs.WriterRoundTrip.{Fitted}
 use Rattle.replication.specs.Machine.Types.{Server, context_of}
 use Rattle.replication.specs.Machine.Step.{own_state}
 use Rattle.image.specs.Layout.{the_cuts, the_yellow, sections, offset, state_length, out_length, header_size, most_state_size}
@@ -142,26 +143,33 @@ module _ (s : Server) (b : List ℕ) (r : Holds s b) where
 
 -- ---- as the code writes it
 
-module _ (b o o₁ : List ℕ) (id at : ℕ) (g : StateHead) (w : Written) (h : LentSuch (λ s. 0 ≤ 0) b o)
+module _ (b o o₁ : List ℕ) (id at r : ℕ) (g : StateHead) (w : Option ℕ) (h : LentSuch (λ s. 0 ≤ 0) b o)
     (i : g ≡ own_head (header_in b) (length (greens_in b)) id) (j : at ≡ place the_yellow b)
-    (e : put_of w o₁ ≡ put_state g (take (length b - header_size) (drop header_size b)) (take (length b - at) (drop at b)) o) where
-  pub state_full : w ≡ Full → (m : ℕ) (s : Server) (set : ℕ) → Holds s b
-      → (m ≡ length (record_bytes (own_record id set s))) × (o₁ ≡ over (record_bytes (own_record id set s)) o)
-  state_full f m s set r =
-      put_room (write (state (own_state (configuration_of id set) s))) o o₁ w (e ∙ own_put s b r o id set at g i j)
-      (omega (arith, own_short s b r id set, lent_room (λ s. 0 ≤ 0) b o s h r)) f
+    (e : put_of w o₁ ≡ put_state g (take (length b - header_size) (drop header_size b)) (take (length b - at) (drop at b)) o)
+    (is-r : r ≡ unwrap_or w 0) where
+  written : (s : Server) (set : ℕ) → Holds s b → Fitted (write (state (own_state (configuration_of id set) s))) o r o₁
+  written s set k = go w refl
+    where
+      x : List ℕ
+      x = write (state (own_state (configuration_of id set) s))
 
-  pub state_done : (m : ℕ) → w ≡ Next m → (s : Server) (set : ℕ) → Holds s b
-      → (m ≡ length (record_bytes (own_record id set s))) × (o₁ ≡ over (record_bytes (own_record id set s)) o)
+      puts : put_of w o₁ ≡ put x o
+      puts = e ∙ own_put s b k o id set at g i j
+
+      go : (v : Option ℕ) → w ≡ v → Fitted x o r o₁
+      go None f = put_room x o o₁ w puts (omega (arith, own_short s b k id set, lent_room (λ s. 0 ≤ 0) b o s h k)) f
+      go (Some n) f =
+          let same : n ≡ r = sym (is-r ∙ ap (λ (v : Option ℕ). unwrap_or v 0) f) in
+          subst (λ (m : ℕ). Fitted x o m o₁) same (put_done x o o₁ w puts n f)
+
+  pub state_done : (s : Server) (set : ℕ) → Holds s b
+      → (r ≡ length (record_bytes (own_record id set s))) × (o₁ ≡ over (record_bytes (own_record id set s)) o)
   unfolding own_record
-  state_done m f s set r =
+  state_done s set k =
       let x : List ℕ = write (state (own_state (configuration_of id set) s)) in
-      let done = put_done x o o₁ w (e ∙ own_put s b r o id set at g i j) m f in
+      let done = written s set k in
       let bytes : x ≡ record_bytes (own_record id set s) = sym (one_record (state (own_state (configuration_of id set) s))) in
       (omega (arith, done.sized, ap length bytes), done.filled ∙ ap (λ (y : List ℕ). over y o) bytes)
 
-  pub state_small : (m : ℕ) → w ≡ Next m → Fits w32 m
-  state_small m f =
-      let s : Server = h.state in
-      let done = put_done (write (state (own_state (configuration_of id 0) s))) o o₁ w (e ∙ own_put s b h.holds o id 0 at g i j) m f in
-      omega (arith, done.sized, own_most s b h.holds id 0)
+  pub state_small : Fits w32 r
+  state_small = let done = written h.state 0 h.holds in omega (arith, done.sized, own_most h.state b h.holds id 0)

@@ -4,17 +4,20 @@ use mathlib.Core.Path.{◌≡◌, refl, sym, ap, subst, ◌∙◌}
 use mathlib.Core.Bool.{true}
 use mathlib.Core.List.{List, [], ◌∷◌, map}
 use mathlib.Core.Option.{Option, some}
+use Rattle.std.specs.Prelude.{Option as Maybe}
+use Rattle.std.specs.Option.{unwrap_or}
 use native.Mathlib.Omega.{arith}
 use lib.ListN.{length, drop}
 use lib.Seq.{drop-length}
-use Rattle.base.specs.Bytes.{over}
+use Rattle.base.specs.Bytes.{over, part_at}
 use Rattle.base.specs.Lists.{at, at_front, gather, after, above}
 use Rattle.base.proofs.Occurs.{Occurs, occurs_first}
-use Rattle.base.proofs.Over.{over_front}
 use Rattle.format.specs.Limits.{most_payload_limit}
 use Rattle.format.specs.Places.{most_retransmission}
 use Rattle.format.specs.Types.{Action, Record, action}
-use Rattle.format.specs.Write.{record_bytes}
+use Rattle.format.specs.Write.{write, record_bytes}
+use Rattle.record.specs.Values.{action_of}
+use Rattle.writer.specs.Written.{put, put_of}
 use Rattle.record.specs.declared.State.{State}
 use Rattle.record.specs.declared.events.ActionAt.{ActionAt}
 use Rattle.record.specs.Events.{action_in, action_from}
@@ -37,6 +40,7 @@ use Rattle.outgoing.specs.Lent.{LentSuch}
 use Rattle.outgoing.specs.Resending.{one_of, Sends, Room}
 use Rattle.outgoing.specs.Sending.{own_in, as_action, own_at, OwnIn}
 use Rattle.outgoing.proofs.LentLaws.{holds_part, holds_products}
+use Rattle.outgoing.proofs.ResendingLaws.{own_action_sent}
 
 -- ---- the slot p
 
@@ -59,9 +63,11 @@ module _ (b : List ℕ) (p start : ℕ) (a : ActionAt) (q : OwnIn b) (low : 1 �
       actions_at_lem (own_count_of b) b (place the_own b) (p - 1) (omega arith)
       ∙ ap some (sym (slot_read b (place the_own b + slot_size * (p - 1))) ∙ ap (λ (x : ActionAt). action_from x b) (sym read))
 
-  pub own_sent : (i r : ℕ) (o o₁ : List ℕ) → Sends 1 (action (action_from a b) ∷ []) i o o₁ r → Sends 1 (one_of (own_at b p)) i o o₁ r
+  pub own_sent : (r : ℕ) (payload o o₁ : List ℕ) (w : Maybe ℕ) → most_retransmission ≤ length o → payload ≡ part_at a.payload_length b a.payload_at
+      → put_of w o₁ ≡ put (write (action (action_of a.head payload))) o → r ≡ unwrap_or w 0 → Sends 1 (one_of (own_at b p)) o o₁ r
   unfolding one_of own_at as_action at_front
-  own_sent i r o o₁ s = subst (λ (x : Option Action). Sends 1 (one_of (as_action x)) i o o₁ r) (sym own_action) s
+  own_sent r payload o o₁ w l g s is-r =
+      subst (λ (x : Option Action). Sends 1 (one_of (as_action x)) o o₁ r) (sym own_action) (own_action_sent a b payload o o₁ w own_short l g s r is-r)
 
 -- ---- all behind the first k
 
@@ -146,10 +152,10 @@ module _ (P : Server → Type 0) (b o : List ℕ) (l : LentSuch P b o) where
     pub behind_high : h.own_count ≤ own_count_of b
     behind_high = omega (arith, own_high)
 
-    pub behind_room : (low : ℕ) → Room 0 (h.own_count - low) o
+    pub behind_room : (low : ℕ) → Room (h.own_count - low) o
     behind_room low = omega (arith, own_high, own_room)
 
-    pub behind_fits : (low r : ℕ) (xs : List Record) (o₁ : List ℕ) → Sends (h.own_count - low) xs 0 o o₁ r → r < 4294967296
+    pub behind_fits : (low r : ℕ) (xs : List Record) (o₁ : List ℕ) → Sends (h.own_count - low) xs o o₁ r → r < 4294967296
     behind_fits low r xs o₁ a = let c = lent_own.counts in omega (arith, own_high, a.most, c.own, c.sizes.quota)
 
     module _ (w : ℕ) (f : (s : Server) → well_formed s ≡ true → h ≡ header_of s → w ≡ length (waiting s.log)) where
@@ -159,16 +165,15 @@ module _ (P : Server → Type 0) (b o : List ℕ) (l : LentSuch P b o) where
           let r = l.holds in
           omega (arith, f s r.formed (said s r), waiting_within s r.formed, own_high, (numbers s b r).own)
 
-      module _ (r : ℕ) (o₁ : List ℕ) (a : Sends (h.own_count - (h.own_count - w)) (gather (own_at b) (above (h.own_count - w) h.own_count)) 0 o o₁ r)
+      module _ (r : ℕ) (o₁ : List ℕ) (a : Sends (h.own_count - (h.own_count - w)) (gather (own_at b) (above (h.own_count - w) h.own_count)) o o₁ r)
           (s : Server) (k : Holds s b) where
         all_waiting : gather (own_at b) (above (h.own_count - w) h.own_count) ≡ waiting_records s
         all_waiting = (λ i. gather (own_at b) (above (own_high i - f s k.formed (said s k) i) (own_high i))) ∙ behind_waiting s b k
 
         pub waiting_length : r ≡ length (record_bytes (waiting_records s))
-        waiting_length = omega (arith, a.place, ap (λ (xs : List Record). length (record_bytes xs)) all_waiting)
+        waiting_length = omega (arith, a.count, ap (λ (xs : List Record). length (record_bytes xs)) all_waiting)
 
         pub waiting_bytes : o₁ ≡ over (record_bytes (waiting_records s)) o
         waiting_bytes =
             a.bytes
-            ∙ over_front (record_bytes (gather (own_at b) (above (h.own_count - w) h.own_count))) o
             ∙ ap (λ (xs : List Record). over (record_bytes xs) o) all_waiting

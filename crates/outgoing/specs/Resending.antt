@@ -1,9 +1,8 @@
 -- One's part of the retransmission plan, over the buffers.
-use Rattle.std.specs.Prelude.{ℕ, ◌+◌, ◌*◌, ◌≤◌, ◌<◌, ◌≡◌, List, [], ◌++◌, length}
+use Rattle.std.specs.Prelude.{ℕ, ◌+◌, ◌*◌, ◌≤◌, ◌<◌, ◌≡◌, List, [], ◌++◌, length, Option as Maybe, MatchOption}
 use Rattle.std.proofs.Math.Option.{Option}
-use Rattle.base.specs.Bytes.{number_at}
+use Rattle.base.specs.Bytes.{number_at, over}
 use Rattle.base.specs.Lists.{at, at_front, gather, gather_all, above, below}
-use Rattle.base.specs.Patched.{patched}
 use Rattle.format.specs.Limits.{most_servers_limit, most_number_limit, most_payload_limit}
 use Rattle.format.specs.Types.{Action, Record}
 use Rattle.record.specs.Values.{id_of}
@@ -19,6 +18,7 @@ use Rattle.base.specs.Lent.{Lent}
 use Rattle.format.specs.Places.{most_retransmission}
 use Rattle.format.specs.Write.{record_bytes}
 use Rattle.image.specs.Counts.{queue_count, place}
+use Rattle.outgoing.specs.declared.resending.Red.{Red}
 use Rattle.record.specs.declared.events.ActionAt.{ActionAt}
 use Rattle.replication.specs.Machine.Types.{Server}
 
@@ -53,27 +53,28 @@ greens_of me low high b = gather (at_position me b) (above low high)
 abbrev pub reds_of : (me c low high : ℕ) → List ℕ → List Record
 reds_of me c low high b = gather (as_red me (queue_in b) c) (above low high)
 
--- The records rs from `at` on, none longer than the longest retransmission, for each of m that were asked for; the place behind them is r.
-pub record Sends (m : ℕ) (rs : List Record) (at : ℕ) (old new : List ℕ) (r : ℕ) : Type 0 where
-  pub place : r ≡ at + length (record_bytes rs)
-  pub most : r ≤ at + most_retransmission * m
+-- The records rs at the front of a buffer, r bytes, none longer than the longest retransmission, for each of m that were asked for.
+pub record Sends (m : ℕ) (rs : List Record) (old new : List ℕ) (r : ℕ) : Type 0 where
+  pub count : r ≡ length (record_bytes rs)
+  pub most : r ≤ most_retransmission * m
+  pub inside : r ≤ length old
   pub size : length new ≡ length old
-  pub bytes : new ≡ patched at (record_bytes rs) old
+  pub bytes : new ≡ over (record_bytes rs) old
 
 -- The same of the lent buffer itself.
-abbrev pub SendsTo : (m : ℕ) → List Record → (at : ℕ) → (out : Lent) → (r : ℕ) → Type 0
-SendsTo m rs at out r = Sends m rs at out.entry.now out.exit.now r
+abbrev pub SendsTo : (m : ℕ) → List Record → (out : Lent) → (r : ℕ) → Type 0
+SendsTo m rs out r = Sends m rs out.entry.now out.exit.now r
 
--- Room for m retransmissions from `at` on.
-abbrev pub Room : (at m : ℕ) → (o : List ℕ) → Type 0
-Room at m o = at + most_retransmission * m ≤ length o
+-- Room for m retransmissions.
+abbrev pub Room : (m : ℕ) → (o : List ℕ) → Type 0
+Room m o = most_retransmission * m ≤ length o
 
 -- Each of the records rs is asked for.
-abbrev pub SendsAll : List Record → (at : ℕ) → (out : Lent) → (r : ℕ) → Type 0
-SendsAll rs at out r = SendsTo (length rs) rs at out r
+abbrev pub SendsAll : List Record → (out : Lent) → (r : ℕ) → Type 0
+SendsAll rs out r = SendsTo (length rs) rs out r
 
-abbrev pub RoomFor : List Record → (at : ℕ) → (o : List ℕ) → Type 0
-RoomFor rs at o = Room at (length rs) o
+abbrev pub RoomFor : List Record → (o : List ℕ) → Type 0
+RoomFor rs o = Room (length rs) o
 
 -- The payload of an action that lies in the bytes b.
 pub record PayloadInside (a : ActionAt) (b : List ℕ) : Type 0 where
@@ -104,6 +105,17 @@ OwnNumber me b = me ≡ number_at 1 b at_me
 -- One record or none.
 unfoldable pub one_of : Option Record → List Record
 one_of x = at_front x []
+
+-- Where the creator c's next action over the index i stands, whose index is not over `high`.
+pub record IsNextRed (c i high : ℕ) (b : List ℕ) (x : Red) : Type 0 where
+  pub there : x.place < queue_count b
+  pub over : i < x.index
+  pub most : x.index ≤ high
+  pub alone : (me : ℕ) → reds_of me c i x.index b ≡ one_of (from_place me 0 (queue_in b) x.place)
+
+-- None is held there, or that one is.
+abbrev pub NextRed : (c i high : ℕ) → List ℕ → Maybe Red → Type 0
+NextRed c i high b r = MatchOption r ((me : ℕ) → reds_of me c i high b ≡ []) (IsNextRed c i high b)
 
 -- ---- the plan's parts, of the state that the buffer b holds
 

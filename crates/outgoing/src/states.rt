@@ -11,7 +11,7 @@ use image::places::{THE_YELLOW, place_of};
 use queue::history::green_length;
 use record::State;
 use record::events::StateHead;
-use writer::records::{Written, write_state};
+use writer::records::write_state;
 
 // The numbers of the State that a server with the numbers h and a green history of this length sends in this configuration.
 fn own_head(h: State, green_length: u32, id: u32) -> StateHead
@@ -49,9 +49,6 @@ pub fn send_state(state: &[u8], out: &mut [u8], id: u32) -> u32
 {
     let head = own_numbers(state, id);
     let at = place_of(state, THE_YELLOW);
-    let w = write_state(out, head, &state[State::SIZE..], &state[at..]);
-    let Written::Next(sent) = w else {
-        return 0;
-    };
-    sent as u32
+    let size = write_state(out, head, &state[State::SIZE..], &state[at..]);
+    size.unwrap_or(0) as u32
 }

@@ -90,13 +90,14 @@ module _ (b : List ℕ) (from : ℕ) (o₀ o : List ℕ) (k at : ℕ) (q : Queue
         })
 
   pub along_ends : (white green : ℕ) (r : GreenEntries) → white ≡ white_in b → green ≡ length (greens_in b) → green ≤ k
-      → r ≡ put_entries green white (k - from) at → listed r o ≡ listing (white_in b) (greens_in b) from o₀
+      → r ≡ put_entries green white (green - from) at → listed r o ≡ listing (white_in b) (greens_in b) from o₀
   along_ends white green r d e h is-r =
       let last : k ≡ length (greens_in b) = omega (arith, a.high) in
+      let whole : green - from ≡ k - from = omega arith in
       along_answer
       (ap (λ (n : ℕ). fitting (length o₀ - at) (drop n (greens_in b))) last
       ∙ ap (fitting (length o₀ - at)) (drop-length (greens_in b))
-      ∙ none_to_fit (length o₀ - at)) white green r d e is-r
+      ∙ none_to_fit (length o₀ - at)) white green r d e (is-r ∙ ap (λ (n : ℕ). put_entries green white n at) whole)
 
   -- A position before the last one has a slot.
   pub along_behind : white_in b ≤ k

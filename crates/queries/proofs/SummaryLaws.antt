@@ -25,6 +25,9 @@ use Rattle.queue.specs.Queue.{QueueIn}
 use Rattle.queue.proofs.ReadLaws.{holds_queue}
 use Rattle.queries.specs.declared.Summary.{Summary}
 use Rattle.queries.specs.Queries.{states_in_of, resent_in_of, resent_planned_of, cpcs_in_of, summary_of, no_summary, summary_on}
+use Rattle.refusals.specs.declared.Refusal.{Refusal}
+use Rattle.refusals.specs.declared.Refusal.TheVariants.{BadRecord, OutOfRange, QuotaUsed, NotNow, NotFromHere, ShortBuffer, BadState}
+use Rattle.refusals.specs.Numbers.{refusal_number}
 
 abbrev made : State → (green white red unsent states resent planned cpcs : ℕ) → Summary
 made h green white red unsent states resent planned cpcs = record {
@@ -67,6 +70,16 @@ summary_made h green white unsent states resent planned cpcs f g i j s ok e l w 
     let red : length (queue (shown_log s)) - length (shown_log s).green ≡ length s.log.red = omega (arith, queue_parts (shown_log s)) in
     ap (λ (x : State). made x green white (x.queue_length - x.green_count) unsent states resent planned cpcs) e
     ∙ (λ z. made (header_of s) (l z) (w z) (red z) (f s ok e z) (g s e z) (i s e z) (k z) (j s e z))
+
+-- A refusal's number is not 0.
+pub above_zero : (r : Refusal) → refusal_number r ≡ 0 → ⊥
+above_zero BadRecord e = omega (arith, e)
+above_zero OutOfRange e = omega (arith, e)
+above_zero QuotaUsed e = omega (arith, e)
+above_zero NotNow e = omega (arith, e)
+above_zero NotFromHere e = omega (arith, e)
+above_zero ShortBuffer e = omega (arith, e)
+above_zero BadState e = omega (arith, e)
 
 module _ (b : List ℕ) (n : ℕ) (e : n ≡ image_number b) where
   pub summary_refused : (r : Summary) → (n ≡ 0 → ⊥) → r ≡ no_summary n → r ≡ summary_on b

@@ -1,5 +1,5 @@
 -- What a state's buffer says, for C: its numbers, and its green entries.
-use Rattle.std.specs.Prelude.{ℕ, ◌+◌, ◌-◌, Bool, List, [], ◌∷◌, map, length, drop}
+use Rattle.std.specs.Prelude.{ℕ, ◌+◌, ◌-◌, Bool, List, [], ◌∷◌, map, length, drop, Result, Ok, Err}
 use Rattle.base.specs.Tests.{◌or◌, ◌≤?◌, ◌<?◌, ◌=?◌, pick}
 use Rattle.base.specs.Bytes.{joined, over}
 use Rattle.base.specs.Sets.{size}
@@ -14,6 +14,8 @@ use Rattle.replication.specs.Machine.Step.{collected, planned_now}
 use Rattle.image.specs.Header.{status_of, id_of, set_of, transitional_of, mode_number}
 use Rattle.image.specs.Decode.{decoded, reads, greens_in, white_in}
 use Rattle.image.specs.Outcome.{state_short, image_number}
+use Rattle.refusals.specs.declared.Refusal.{Refusal}
+use Rattle.refusals.specs.Numbers.{refusal_number}
 use Rattle.queries.specs.declared.Summary.{Summary}
 use Rattle.queries.specs.declared.GreenEntries.{GreenEntries}
 
@@ -168,6 +170,11 @@ listed r o = record { number = r.number; green = r.green; white = r.white; entri
 -- The code's answer where it refuses, and where it has put entries.
 abbrev pub refused_entries : (number : ℕ) → GreenEntries
 refused_entries k = record { number = k; green = 0; white = 0; entries = 0; bytes = 0 }
+
+-- Where it may refuse.
+abbrev pub entries_of : Result GreenEntries Refusal → GreenEntries
+entries_of (Ok r) = r
+entries_of (Err k) = refused_entries (refusal_number k)
 
 abbrev pub put_entries : (green white entries bytes : ℕ) → GreenEntries
 put_entries g w n m = record { number = 0; green = g; white = w; entries = n; bytes = m }

@@ -41,9 +41,8 @@ pub fn put_entries(state: &[u8], from: u32, white: u32, green: u32, out: &mut [u
         ≡ listing (white_in state.now) (greens_in state.now) from out.old }
 {
     let queue = place_of(state, THE_QUEUE);
-    let mut k = from;
-    let mut at: usize = 0;
-    while k < green {
+    let mut at = 0;
+    for k in from..green {
         let slot = queue + State::SLOT * green_slot(state, k);
         let m = num8(state, slot + ActionHead::PAYLOAD) as usize;
         if out.len() - at < ENTRY_HEAD + m {
@@ -51,7 +50,6 @@ pub fn put_entries(state: &[u8], from: u32, white: u32, green: u32, out: &mut [u
         }
         put_entry(state, slot, m, out, at);
         at += ENTRY_HEAD + m;
-        k += 1;
     }
-    GreenEntries::put(green, white, k - from, at)
+    GreenEntries::put(green, white, green - from, at)
 }

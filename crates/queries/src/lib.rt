@@ -6,19 +6,19 @@ ghost use Rattle.replication.specs.Machine.Types.{Server};
 ghost use Rattle.replication.specs.Machine.WellFormed.{well_formed};
 ghost use Rattle.image.specs.Header.{header_of};
 ghost use Rattle.queries.specs.Queries.{resent_planned_of, summary_of, no_summary, summary_on, entries_on, listed};
-ghost use Rattle.queries.specs.Queries.{refused_entries, put_entries};
+ghost use Rattle.queries.specs.Queries.{refused_entries, put_entries, entries_of};
 ghost use Rattle.queries.specs.Reading.{ReadingsGiveAll, NewlyGreen};
 
 pub mod meeting; // meeting.rt: how far a meeting is
 pub mod entries; // entries.rt: entries put one behind another
 
-use refusals::{OUT_OF_RANGE, SHORT_BUFFER};
 use entries::{MOST_ENTRY, put_entries};
 use image::header::{load, unsent};
 use meeting::{cpcs_in, resent_in, resent_planned, states_in};
 use queue::history::{green_length, white_length};
 use record::State;
-use state_check::image_number;
+use refusals::Refusal;
+use state_check::check_image;
 
 // What a state says: 0 and its numbers, or what its buffer is refused with and zeros.
 #[repr(C)]
@@ -123,17 +123,18 @@ impl Summary {
 pub fn summary_on(state: &[u8]) -> Summary
     ensures { result ≡ summary_on state.now }
 {
-    let number = image_number(state);
-    if number != 0 {
-        return Summary::refused(number);
+    match check_image(state) {
+        Ok(()) => {
+            let planned = resent_planned(state);
+            Summary::of(
+                load(state),
+                green_length(state),
+                white_length(state),
+                planned,
+            )
+        }
+        Err(refusal) => Summary::refused(u32::from(refusal)),
     }
-    let planned = resent_planned(state);
-    Summary::of(
-        load(state),
-        green_length(state),
-        white_length(state),
-        planned,
-    )
 }
 
 // 0, how many entries are green in all, how many of these are white, and how many were put in how many bytes; or the number of a refusal
@@ -180,25 +181,32 @@ impl GreenEntries {
 // The green entries behind the first `from`, as many as fit whole. 7 where a buffer is too short, then 8 where the state's holds no
 // well-formed state, then 2 where there are not so many, or where the next one is white: it is not there, and a later one must not be
 // taken for it.
-pub fn green_entries(state: &[u8], from: u32, entries: &mut [u8]) -> GreenEntries
-    ensures { listed result entries.new ≡ entries_on state.now from entries.old }
+fn read_entries(state: &[u8], from: u32, entries: &mut [u8]) -> Result<GreenEntries, Refusal>
+    ensures { listed (entries_of result) entries.new ≡ entries_on state.now from entries.old }
 {
     if entries.len() < MOST_ENTRY {
-        return GreenEntries::refused(SHORT_BUFFER);
+        return Err(Refusal::ShortBuffer);
     }
-    let number = image_number(state);
-    if number != 0 {
-        return GreenEntries::refused(number);
-    }
+    check_image(state)?;
     let white = white_length(state);
     if from < white {
-        return GreenEntries::refused(OUT_OF_RANGE);
+        return Err(Refusal::OutOfRange);
     }
     let green = green_length(state);
     if green < from {
-        return GreenEntries::refused(OUT_OF_RANGE);
+        return Err(Refusal::OutOfRange);
     }
-    put_entries(state, from, white, green, entries)
+    Ok(put_entries(state, from, white, green, entries))
+}
+
+// The same as C is answered.
+pub fn green_entries(state: &[u8], from: u32, entries: &mut [u8]) -> GreenEntries
+    ensures { listed result entries.new ≡ entries_on state.now from entries.old }
+{
+    match read_entries(state, from, entries) {
+        Ok(read) => read,
+        Err(refusal) => GreenEntries::refused(u32::from(refusal)),
+    }
 }
 
 // Readings one behind another give all green entries that are not white; green lengths before and after an event tell what turned green.

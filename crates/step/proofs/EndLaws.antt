@@ -15,8 +15,8 @@ use Rattle.format.specs.Types.{cpc}
 use Rattle.format.specs.Write.{write, ids_bytes, length_of, record_bytes}
 use Rattle.format.proofs.Lengths.{write_length}
 use Rattle.record.specs.declared.State.{State}
-use Rattle.writer.specs.declared.records.Written.{Written}
-use Rattle.writer.specs.declared.records.Written.TheVariants.{Next, Full}
+use Rattle.std.specs.Prelude.{Option as Maybe, Some, None}
+use Rattle.std.specs.Option.{unwrap_or}
 use Rattle.writer.specs.Written.{put, put_of}
 use Rattle.replication.specs.Machine.Types.{Non_prim, Votes, Configuration, Server, with_membership, with_mode, in_mode, context_of}
 use Rattle.replication.specs.Machine.Exchange.{quorum, taken_votes, taken_yellow, attempted}
@@ -121,31 +121,46 @@ module _ (b o : List ℕ) (m : LentSuch Attempts b o) where
   pub attempt_some : (c : List ℕ) → Decided b c → HoldsSome c
   attempt_some c f = holds_some (decided m.state) c (decided_holds m.state b c m.holds m.fact.1 f)
 
-  module _ (h : State) (e : h ≡ header_in b) (w : Written) (o₁ : List ℕ) (p : put_of w o₁ ≡ put (write (cpc h.me h.configuration_id)) o) where
+  module _ (h : State) (e : h ≡ header_in b) (w : Maybe ℕ) (o₁ : List ℕ) (p : put_of w o₁ ≡ put (write (cpc h.me h.configuration_id)) o) where
     own_cpc : (t : Server) → Holds t b → cpc h.me h.configuration_id ≡ cpc t.me (here_id t)
     unfolding header_of here_id
     own_cpc t r =
         let f : h ≡ header_of t = e ∙ header_loaded t b r in
         (λ i. cpc (f i).me (f i).configuration_id) ∙ ap (cpc t.me) (id_here t.membership.configuration)
 
-    pub attempt_full : w ≡ Full → (r : Answer) (b₁ : List ℕ) (s t : Server) → Holds t b → answered r b₁ o₁ ≡ outcome_on (end_exchange s t) b o
+    attempt_full : {A : Type 0} → w ≡ None → A
     unfolding out_length length_of
-    attempt_full f r b₁ s t k =
+    attempt_full f =
+        let t : Server = m.state in
         put_room (write (cpc h.me h.configuration_id)) o o₁ w p
-        (omega (arith, write_length (cpc h.me h.configuration_id), (holds_products t b k).two, lent_room Attempts b o t m k)) f
+        (omega (arith, write_length (cpc h.me h.configuration_id), (holds_products t b m.holds).two, lent_room Attempts b o t m m.holds)) f
 
-    pub attempt_short : (n : ℕ) → w ≡ Next n → n ≡ 9
+    -- The CPC is written.
+    attempt_there : (n : ℕ) → n ≡ unwrap_or w 0 → w ≡ Some n
+    attempt_there n is-n = go w refl
+      where
+        go : (x : Maybe ℕ) → w ≡ x → w ≡ Some n
+        go None f = attempt_full f
+        go (Some k) f =
+            let same : k ≡ n = sym (is-n ∙ ap (λ (x : Maybe ℕ). unwrap_or x 0) f) in
+            f ∙ ap (λ (j : ℕ). Some j) same
+
+    pub attempt_short : (n : ℕ) → n ≡ unwrap_or w 0 → n ≡ 9
     unfolding length_of
-    attempt_short n f =
-        omega (arith, write_length (cpc h.me h.configuration_id), (put_done (write (cpc h.me h.configuration_id)) o o₁ w p n f).sized)
+    attempt_short n is-n =
+        omega (
+          arith,
+          write_length (cpc h.me h.configuration_id),
+          (put_done (write (cpc h.me h.configuration_id)) o o₁ w p n (attempt_there n is-n)).sized,
+        )
 
-    pub attempt_made : (n : ℕ) → w ≡ Next n → (c d : List ℕ) → Decided b c → ((t : Server) → Holds t c → d ≡ image (attempting t) c) → (r : Answer)
+    pub attempt_made : (n : ℕ) → n ≡ unwrap_or w 0 → (c d : List ℕ) → Decided b c → ((t : Server) → Holds t c → d ≡ image (attempting t) c) → (r : Answer)
         → r ≡ stored_first n
         → (s t : Server) → Holds t b → answered r d o₁ ≡ outcome_on (end_exchange s t) b o
-    attempt_made n f c d g k r a s t y =
+    attempt_made n is-n c d g k r a s t y =
         let z : Attempts t = lent_fact Attempts b o t m y in
         let x : List ℕ = write (cpc h.me h.configuration_id) in
-        let done = put_done x o o₁ w p n f in
+        let done = put_done x o o₁ w p n (attempt_there n is-n) in
         let bytes : x ≡ record_bytes (cpc t.me (here_id t) ∷ []) = ap write (own_cpc t y) ∙ sym (one_record (cpc t.me (here_id t))) in
         stored_outcome s (attempting (decided t)) (cpc t.me (here_id t) ∷ []) b o d o₁ n r a (over_decided t y z c d g k)
         (omega (arith, done.sized, ap length bytes))

@@ -24,8 +24,9 @@ use Rattle.record.specs.Context.{reading_context}
 use Rattle.record.specs.Context as code
 use Rattle.record.specs.Events.{action_from, state_from, record_of}
 use Rattle.record.specs.Values.{id_of, action_of}
-use Rattle.reader.specs.declared.Reading.{Reading}
-use Rattle.reader.specs.declared.Reading.TheVariants.{Good, Refused}
+use Rattle.std.specs.Prelude.{Result, Ok, Err}
+use Rattle.refusals.specs.declared.Refusal.{Refusal}
+use Rattle.refusals.specs.Numbers.{refusal_number}
 use Rattle.reader.specs.Reading.{meaning}
 use Rattle.reader.proofs.Callers.{good_says, refused_says}
 use Rattle.replication.specs.Machine.Types.{Mode, Non_prim, Reg_prim, Trans_prim, Exchange_states, Exchange_actions, Construct, No, Un, Configuration, Server, refused, with_log, context_of}
@@ -267,18 +268,18 @@ module _ (b e : List ℕ) (h : Numbers) (l : h ≡ header_in b) where
       go (says r) = early_stays s (λ u. n (numbers_mode h s (numbers s i) ∙ ap mode_number u)) r
       go (format.refused k) = refl
 
-  module _ (un : h.mode ≡ 7) (c : Context) (q : c ≡ reading_context h) (r : Reading) (said : meaning r e ≡ read (code.context_of c) e) where
+  module _ (un : h.mode ≡ 7) (c : Context) (q : c ≡ reading_context h) (r : Result Event Refusal) (said : meaning r e ≡ read (code.context_of c) e) where
     read_here : (s : Server) → Holds s b → (x : FormatReading Record) → read (code.context_of c) e ≡ x → met s e ≡ met_on s x
     unfolding met
     read_here s i x f =
         let same : code.context_of c ≡ context_of s = ap code.context_of (q ∙ ap reading_context (numbers s i)) ∙ reading_context_lem s in
         ap (met_on s) (ap (λ (y : FormatContext). read y e) (sym same) ∙ f)
 
-    pub meet_unread : (k : ℕ) → r ≡ Refused k → (s : Server) → Holds s b → b ≡ image (met s e) b
+    pub meet_unread : (k : Refusal) → r ≡ Err k → (s : Server) → Holds s b → b ≡ image (met s e) b
     unfolding met_on
-    meet_unread k f s i = unmet s i (read_here s i (format.refused k) (refused_says c r k e said f))
+    meet_unread k f s i = unmet s i (read_here s i (format.refused (refusal_number k)) (refused_says c r k e said f))
 
-    module _ (v : Event) (f : r ≡ Good v) (t : Bool)
+    module _ (v : Event) (f : r ≡ Ok v) (t : Bool)
         (told : (s : Server) (e : List ℕ) → h ≡ header_of s → s.membership.mode ≡ Un → Meets t s (record_of v e)) where
       in_un : (s : Server) → Holds s b → s.membership.mode ≡ Un
       unfolding mode_named pick ◌=?◌ mode_number

@@ -36,7 +36,7 @@ use Rattle.image.proofs.InPlace.{holds_some}
 use Rattle.image.proofs.Raising.{raised_image}
 use Rattle.image.proofs.Taken.{image_held}
 use Rattle.updates.specs.White.{whitened}
-use Rattle.step.specs.declared.Act.{Act}
+use Rattle.step.specs.declared.Answer.{Answer}
 use Rattle.step.specs.Answers.{answered}
 use Rattle.step.specs.Stages.{unraised, core_images, images_before, unraised_on, unraised_by, unraised_step, is_taken, ignored_by, raises_by, raises}
 use Rattle.step.proofs.StageEnds.{Stage, stage}
@@ -212,8 +212,8 @@ pub raise_none : (x : Bool) (b : List ℕ) → x ≡ false → (s : Server) → 
 unfolding pick
 raise_none x b e s r = rw e (sym r.written)
 
-module _ (b e o : List ℕ) (zero : state_number b o ≡ 0) (a : Act) (b₁ o₁ : List ℕ)
-    (y : (s : Server) → Holds s b → (answered a.answer b₁ o₁ ≡ unraised_step s e b o) × (a.raises ≡ raises s e)) where
+module _ (b e o : List ℕ) (zero : state_number b o ≡ 0) (a : Answer) (g : Bool) (b₁ o₁ : List ℕ)
+    (y : (s : Server) → Holds s b → (answered a b₁ o₁ ≡ unraised_step s e b o) × (g ≡ raises s e)) where
   abbrev s : Server
   s = decoded b
 
@@ -227,11 +227,15 @@ module _ (b e o : List ℕ) (zero : state_number b o ≡ 0) (a : Act) (b₁ o₁
   pub raise_ready : HoldsSome b₁
   raise_ready = subst HoldsSome (sym state_there) (stage_some s e b o holds_here)
 
-  pub step_raised : (b₂ : List ℕ) → ((t : Server) → Holds t b₁ → b₂ ≡ image (pick a.raises (whitened t) t) b₁) → answered a.answer b₂ o₁ ≡ step_on b e o
+  pub step_raised : (b₂ : List ℕ) → ((t : Server) → Holds t b₁ → b₂ ≡ image (pick g (whitened t) t) b₁) → answered a b₂ o₁ ≡ step_on b e o
   unfolding answered
   step_raised b₂ l =
-      let due : a.raises ≡ raises s e = (y s holds_here).1 in
+      let due : g ≡ raises s e = (y s holds_here).1 in
       ap (with_state b₂) (y s holds_here).0
       ∙ stage_raised s e b o holds_here b₂
       (λ t i. l t (subst (Holds t) (sym state_there) i) ∙ (λ j. image (pick (due j) (whitened t) t) (state_there j)))
       ∙ sym (step_read b e o s (zero_read b o zero).0 (zero_ready b o zero).read)
+
+  -- A refusal.
+  pub step_unraised : g ≡ false → answered a b₁ o₁ ≡ step_on b e o
+  step_unraised n = step_raised b₁ (raise_none g b₁ n)

@@ -2,7 +2,7 @@
 use Prim.Native.Nat.{ℕ, ◌≤◌}
 use mathlib.Core.Path.{◌≡◌, refl, sym, ap, subst, ◌∙◌}
 use mathlib.Core.Bool.{Bool, true, false, not}
-use lib.Dec.{eqb}
+use native.Mathlib.Omega.{arith}
 use Rattle.base.specs.Tests.{◌and◌, ◌=?◌}
 use Rattle.base.proofs.TestLaws.{eq_yes, eq_no}
 use mathlib.Core.List.{List}
@@ -16,8 +16,10 @@ use Rattle.format.proofs.RoundTrip.{written_read}
 use Rattle.record.specs.declared.State.{State as Numbers}
 use Rattle.record.specs.declared.Context.{Context}
 use Rattle.record.specs.declared.events.Event.{Event}
-use Rattle.reader.specs.declared.Reading.{Reading}
-use Rattle.reader.specs.declared.Reading.TheVariants.{Good, Refused}
+use Rattle.std.specs.Prelude.{Result as Fallible, Ok, Err}
+use Rattle.refusals.specs.declared.Refusal.{Refusal}
+use Rattle.refusals.specs.declared.Refusal.TheVariants.{BadRecord, OutOfRange, QuotaUsed, NotNow, NotFromHere, ShortBuffer, BadState}
+use Rattle.refusals.specs.Numbers.{refusal_number}
 use Rattle.record.specs.Context.{reading_context, last_of}
 use Rattle.record.specs.Context as code
 use Rattle.record.specs.Events.{record_of}
@@ -38,7 +40,7 @@ use Rattle.step.specs.declared.Answer.{Answer}
 use Rattle.outgoing.specs.Lent.{LentSuch}
 use Rattle.step.specs.Answers.{answered, refused_with}
 use Rattle.step.specs.Stages.{unraised, images_before, unraised_on, unraised_by, unraised_step, is_taken, ignored_by, raises_by, raises}
-use Rattle.step.specs.Events.{ReadInForce, number_of}
+use Rattle.step.specs.Events.{ReadInForce}
 use Rattle.image.specs.Layout.{header_size}
 use Rattle.step.proofs.ForceLaws.{numbers_mode}
 use Rattle.step.proofs.StageLaws.{AboveZero, unraised_above}
@@ -55,22 +57,34 @@ pub reading_context_lem : (s : Server) → code.context_of (reading_context (hea
 unfolding code.context_of reading_context header_of context_of
 reading_context_lem s = λ i. record { servers = s.servers; quota = s.quota; self = s.me; last = last_set s.membership.configuration i }
 
--- ---- the answer of a reading
+-- ---- a refusal's number
 
-pub good_number : (r : Reading) (v : Event) → r ≡ Good v → 0 ≡ number_of r
-unfolding number_of
-good_number r v e = ap number_of (sym e)
+-- It is not 0.
+pub above_zero : (r : Refusal) → refusal_number r ≡ 0 → ⊥
+above_zero BadRecord e = omega (arith, e)
+above_zero OutOfRange e = omega (arith, e)
+above_zero QuotaUsed e = omega (arith, e)
+above_zero NotNow e = omega (arith, e)
+above_zero NotFromHere e = omega (arith, e)
+above_zero ShortBuffer e = omega (arith, e)
+above_zero BadState e = omega (arith, e)
 
-pub refused_number : (r : Reading) (k : ℕ) → r ≡ Refused k → k ≡ number_of r
-unfolding number_of
-refused_number r k e = ap number_of (sym e)
+kept : (u : Bool) → not u ≡ (not u and true)
+unfolding ◌and◌
+kept true = refl
+kept false = refl
+
+dropped : (u : Bool) → false ≡ (not u and false)
+unfolding ◌and◌
+dropped true = refl
+dropped false = refl
 
 -- ---- the step
 
 pub ready_header : (b o : List ℕ) → state_number b o ≡ 0 → header_size ≤ length b
 ready_header b o z = holds_header (decoded b) b (zero_ready b o z).image
 
-module _ (b e o : List ℕ) (z : state_number b o ≡ 0) (h : Numbers) (l : h ≡ header_in b) (c : Context) (q : c ≡ reading_context h) (r : Reading)
+module _ (b e o : List ℕ) (z : state_number b o ≡ 0) (h : Numbers) (l : h ≡ header_in b) (c : Context) (q : c ≡ reading_context h) (r : Fallible Event Refusal)
     (said : meaning r e ≡ read (code.context_of c) e) where
   abbrev s : Server
   s = decoded b
@@ -88,19 +102,18 @@ module _ (b e o : List ℕ) (z : state_number b o ≡ 0) (h : Numbers) (l : h �
   read_here x f = ap (λ (y : FormatContext). read y e) (sym same_context) ∙ f
 
   -- "A record that does not read ends the step with its number."
-  pub act_unread : (k n : ℕ) (v : Answer) → r ≡ Refused k → n ≡ number_of r → v ≡ refused_with n
-      → (t : Server) → Holds t b → (answered v b o ≡ unraised_step t e b o) × (false ≡ raises t e)
-  unfolding answered refusal number_of unraised_step unraised_by raises raises_by
-  act_unread k n v f g w t i =
-      let x = read_here (format.refused k) (refused_says c r k e said f) in
+  pub act_unread : (k : Refusal) → r ≡ Err k
+      → (t : Server) → Holds t b → (answered (refused_with (refusal_number k)) b o ≡ unraised_step t e b o) × (false ≡ raises t e)
+  unfolding answered refusal unraised_step unraised_by raises raises_by
+  act_unread k f t i =
+      let x = read_here (format.refused (refusal_number k)) (refused_says c r k e said f) in
       let same : s ≡ t = holds_one s t b holds i in
-      subst (λ (u : Server). (answered v b o ≡ unraised_step u e b o) × (false ≡ raises u e)) same (
-        ap (λ (y : Answer). answered y b o) (w ∙ ap (λ (m : ℕ). refused_with m) (g ∙ ap number_of f))
-            ∙ ap (λ (y : FormatReading Record). unraised_by s y b o) (sym x),
+      subst (λ (u : Server). (answered (refused_with (refusal_number k)) b o ≡ unraised_step u e b o) × (false ≡ raises u e)) same (
+        ap (λ (y : FormatReading Record). unraised_by s y b o) (sym x),
         ap (raises_by s) (sym x),
       )
 
-  module _ (v : Event) (f : r ≡ Good v) where
+  module _ (v : Event) (f : r ≡ Ok v) where
     pub act_ready : placed c r e → LentSuch (ReadInForce h v e) b o
     act_ready p =
         let good : PlacedEvent c v e = good_placed c r v e p f in
@@ -142,17 +155,15 @@ module _ (b e o : List ℕ) (z : state_number b o ≡ 0) (h : Numbers) (l : h �
       both a w t i =
           subst (λ (u : Server). (answered x b₁ o₁ ≡ unraised_step u e b o) × (a ≡ raises u e)) (holds_one s t b holds i) (acted, w ∙ sym raising)
 
-      pub act_ignored : g ≡ true → (t : Server) → Holds t b → (answered x b₁ o₁ ≡ unraised_step t e b o) × (false ≡ raises t e)
-      unfolding ◌and◌
-      act_ignored l = both false (rw l refl)
+      pub act_refused : (x.number ≡ 0 → ⊥) → (t : Server) → Holds t b → (answered x b₁ o₁ ≡ unraised_step t e b o) × (false ≡ raises t e)
+      act_refused n = both false (dropped g ∙ ap (λ (u : Bool). not g and u) (sym (eq_no x.number 0 n)))
 
-      pub act_taken : g ≡ false → (t : Server) → Holds t b → (answered x b₁ o₁ ≡ unraised_step t e b o) × (eqb x.number 0 ≡ raises t e)
-      unfolding ◌and◌ ◌=?◌
-      act_taken l = both (eqb x.number 0) (rw l refl)
+      pub act_taken : x.number ≡ 0 → (t : Server) → Holds t b → (answered x b₁ o₁ ≡ unraised_step t e b o) × (not g ≡ raises t e)
+      act_taken z = both (not g) (kept g ∙ ap (λ (u : Bool). not g and u) (sym (eq_yes x.number 0 z)))
 
 -- ---- the step by the state's number
 
-pub step_numbered : (b e o : List ℕ) (n : ℕ) (v : Answer) → n ≡ state_number b o → (n ≡ 0 → ⊥) → v ≡ refused_with n → answered v b o ≡ step_on b e o
+pub step_numbered : (b e o : List ℕ) (r : Refusal) → refusal_number r ≡ state_number b o → answered (refused_with (refusal_number r)) b o ≡ step_on b e o
 unfolding answered refusal
-step_numbered b e o n v f g w =
-    ap (λ (y : Answer). answered y b o) (w ∙ ap (λ (i : ℕ). refused_with i) f) ∙ sym (step_refused b e o (λ i. g (f ∙ i)))
+step_numbered b e o r f =
+    ap (λ (i : ℕ). answered (refused_with i) b o) f ∙ sym (step_refused b e o (λ i. above_zero r (f ∙ i)))

@@ -1,5 +1,5 @@
 -- What the code of a step answers, and what it may rely on.
-use Rattle.std.specs.Prelude.{ℕ, ◌≤◌, ◌<◌, ◌≡◌, true, List}
+use Rattle.std.specs.Prelude.{ℕ, ◌≤◌, ◌<◌, ◌≡◌, Bool, true, false, List, Result as Fallible, Ok, Err}
 use Rattle.std.proofs.Math.Option.{Option, none, some}
 use Rattle.base.specs.Refusals.{quota_used, not_now, not_from_here}
 use Rattle.base.specs.Tests.{◌or◌, pick}
@@ -18,7 +18,10 @@ use Rattle.image.specs.Image.{image}
 use Rattle.image.specs.Outcome.{Result, result_of}
 use Rattle.image.specs.Holding.{Holds}
 use Rattle.base.specs.Lent.{Lent}
+use Rattle.refusals.specs.declared.Refusal.{Refusal}
+use Rattle.refusals.specs.Numbers.{refusal_number}
 use Rattle.step.specs.declared.Answer.{Answer}
+use Rattle.step.specs.declared.Taken.{Taken}
 
 -- An answer, and both buffers afterwards.
 unfoldable pub answered : Answer → List ℕ → List ℕ → Result
@@ -73,6 +76,20 @@ AnswersFor f r b o =
 -- A refusal leaves both buffers as they are.
 abbrev pub refused_with : ℕ → Answer
 refused_with k = record { number = k; store = 0; sent = 0 }
+
+-- The store word.
+abbrev pub store_word : Bool → ℕ
+store_word true = 1
+store_word false = 0
+
+-- What C is answered where an event is taken, ..
+abbrev pub taken_answer : Taken → Answer
+taken_answer t = record { number = 0; store = store_word t.store; sent = t.sent }
+
+-- .. and where it may be refused.
+abbrev pub answer_of : Fallible Taken Refusal → Answer
+answer_of (Ok t) = taken_answer t
+answer_of (Err r) = refused_with (refusal_number r)
 
 -- Nothing stored, nothing sent.
 abbrev pub quietly : Answer

@@ -5,8 +5,6 @@ use Rattle.format.specs.Types.{Action, Record, State, state}
 use Rattle.format.specs.Write.{write}
 use Rattle.record.specs.declared.State.{State as Numbers}
 use Rattle.record.specs.declared.events.Event.{Event}
-use Rattle.reader.specs.declared.Reading.{Reading}
-use Rattle.reader.specs.declared.Reading.TheVariants.{Good, Refused}
 use Rattle.record.specs.Context.{reading_context}
 use Rattle.record.specs.Events.{record_of, action_from}
 use Rattle.reader.specs.Reading.{PlacedEvent}
@@ -54,11 +52,6 @@ pub record ReadInForce (h : Numbers) (v : Event) (e : List ℕ) (s : Server) : T
   pub force : InForce h (record_of v e) s
   pub placed : PlacedEvent (reading_context h) v e
   pub written : write (record_of v e) ≡ e
-
--- The number that a reading is refused with; 0 where it is good.
-unfoldable pub number_of : Reading → ℕ
-number_of (Good v) = 0
-number_of (Refused k) = k
 
 -- ---- what is known of the state s before a change
 

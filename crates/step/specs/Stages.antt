@@ -1,6 +1,6 @@
 -- K6: an event in two stages. First everything but the raise: rows 5, 6 and 3, the white length that the action takes, the sieve and the rule; then
 -- the raise.
-use Rattle.std.specs.Prelude.{ℕ, ◌≡◌, Bool, true, false, not, List}
+use Rattle.std.specs.Prelude.{ℕ, ◌≡◌, Bool, true, false, not, List, Result as Fallible, Ok, Err}
 use Rattle.std.proofs.Math.Option.{Option, none, some}
 use Rattle.base.specs.Lent.{Lent}
 use Rattle.base.specs.Tests.{◌and◌}
@@ -17,7 +17,9 @@ use Rattle.image.specs.Holding.{Holds, Becomes}
 use Rattle.image.specs.Outcome.{Result, refusal, result_of}
 use Rattle.step.specs.declared.Answer.{Answer}
 use Rattle.step.specs.declared.Act.{Act}
-use Rattle.step.specs.Answers.{answered, by_rows}
+use Rattle.step.specs.Answers.{answered, by_rows, refused_with, taken_answer}
+use Rattle.refusals.specs.declared.Refusal.{Refusal}
+use Rattle.refusals.specs.Numbers.{refusal_number}
 
 -- ---- the first stage
 
@@ -88,9 +90,18 @@ Sifts f h r b b' =
     → Becomes (λ s. with_white (took_white (f (action_of h p)) s) s) b b'
     × ((s : Server) → Holds s b → action_of r p ≡ sifted (full (f (action_of h p)) s) (action_of h p))
 
+-- What C is answered where the first stage may be refused, and whether the raise is due then.
+abbrev pub act_answer : Fallible Act Refusal → Answer
+act_answer (Ok a) = taken_answer a.taken
+act_answer (Err r) = refused_with (refusal_number r)
+
+abbrev pub act_raises : Fallible Act Refusal → Bool
+act_raises (Ok a) = a.raises
+act_raises (Err r) = false
+
 -- The first stage of an event whose bytes are e.
-abbrev pub ActsOn : (e : List ℕ) → Act → (state out : Lent) → Type 0
+abbrev pub ActsOn : (e : List ℕ) → Fallible Act Refusal → (state out : Lent) → Type 0
 ActsOn e a b o =
     (s : Server) → Holds s b.entry.now
-    → (answered a.answer b.exit.now o.exit.now ≡ unraised_step s e b.entry.now o.entry.now)
-    × (a.raises ≡ raises s e)
+    → (answered (act_answer a) b.exit.now o.exit.now ≡ unraised_step s e b.entry.now o.entry.now)
+    × (act_raises a ≡ raises s e)

@@ -8,19 +8,18 @@ ghost use Rattle.replication.specs.Machine.Rules.{on_action, on_retransmission, 
 ghost use Rattle.image.specs.Header.{header_of, mode_number};
 ghost use Rattle.image.specs.Holding.{HoldsSuch};
 ghost use Rattle.outgoing.specs.Lent.{LentSuch};
-ghost use Rattle.step.specs.Answers.{InForce, StateInForce, AnswersTo, AnswersToAlone};
+ghost use Rattle.step.specs.Answers.{answer_of, taken_answer, InForce, StateInForce, AnswersTo, AnswersToAlone};
 ghost use Rattle.step.specs.Events.{Takes, Colours, FromMember, AnswersState};
 ghost use Rattle.step.specs.Stages.{Acts, ActsAlone};
 ghost use Rattle.format.specs.Limits.{most_servers_limit};
 
-use crate::Answer;
+use crate::Taken;
 use crate::colours::{green_and_note, yellow};
 use crate::exchanging::{collect, exchange};
 use crate::installing::{collect_cpc, collect_late_cpc, late_install};
 use crate::joining::{join, join_unmarked, join_yellow};
 use crate::requests::request;
 use crate::sieve::{pass, pass_at};
-use refusals::{NOT_FROM_HERE, NOT_NOW, QUOTA_USED};
 use guards::{
     NO_MODE, after_transitional, cpc_in, is_member, is_of, numbered_own, quota_left, regular_due,
     state_in, transitional_due,
@@ -28,25 +27,26 @@ use guards::{
 use queue::counting::count_of;
 use queue::entering::red;
 use record::{ActionHead, State};
+use refusals::Refusal;
 use updates::membership::leave;
 
 // An action that rows 5 and 6 and the sieve let pass; `mode` is the state's number, which is not that of Un.
-fn colour(state: &mut [u8], mode: u8, head: ActionHead, payload: &[u8]) -> Answer
+fn colour(state: &mut [u8], mode: u8, head: ActionHead, payload: &[u8]) -> Taken
     requires { HoldsSuch (Takes mode (action_of head payload.now)) state.old }
-    ensures { Colours (action_of head payload.now) result state }
+    ensures { Colours (action_of head payload.now) (taken_answer result) state }
 {
     match mode {
         State::REG_PRIM => {
             green_and_note(state, head, payload);
-            Answer::quiet()
+            Taken::quiet()
         }
         State::TRANS_PRIM => {
             yellow(state, head, payload);
-            Answer::quiet()
+            Taken::quiet()
         }
         _ => {
             red(state, head, payload);
-            Answer::quiet()
+            Taken::quiet()
         }
     }
 }
@@ -55,43 +55,38 @@ fn colour(state: &mut [u8], mode: u8, head: ActionHead, payload: &[u8]) -> Answe
 fn takes_action(mode: u8) -> bool
     ensures { (m : Mode) (a : Action) → mode ≡ mode_number m → result ≡ is_there (on_action m a) }
 {
-    match mode {
-        State::NON_PRIM..=State::EXCHANGE_STATES => true,
-        State::UN => true,
-        _ => false,
-    }
+    matches!(
+        mode,
+        State::NON_PRIM..=State::EXCHANGE_STATES | State::UN
+    )
 }
 
-pub fn on_action(state: &mut [u8], h: State, head: ActionHead, payload: &[u8]) -> Answer
+pub fn on_action(state: &mut [u8], h: State, head: ActionHead, payload: &[u8]) -> Result<Taken, Refusal>
     requires { HoldsSuch (InForce h (action (action_of head payload.now))) state.old }
-    ensures { ActsAlone (action (action_of head payload.now)) result state }
+    ensures { ActsAlone (action (action_of head payload.now)) (answer_of result) state }
 {
     if !takes_action(h.mode) {
-        return Answer::refused(NOT_NOW);
+        return Err(Refusal::NotNow);
     }
     if !numbered_own(h, head.creator, head.index) {
-        return Answer::refused(NOT_NOW);
+        return Err(Refusal::NotNow);
     }
     if !is_member(h, head.creator) {
-        return Answer::refused(NOT_FROM_HERE);
+        return Err(Refusal::NotFromHere);
     }
     if h.mode == State::UN {
         late_install(state, head, payload);
-        return Answer::stored(0);
+        return Ok(Taken::stored(0));
     }
     let x = pass(state, head);
-    colour(state, h.mode, x, payload)
+    Ok(colour(state, h.mode, x, payload))
 }
 
 // Whether a state takes a retransmission.
 fn takes_retransmission(mode: u8) -> bool
     ensures { (m : Mode) (p : ℕ) (a : Action) → mode ≡ mode_number m → result ≡ is_there (on_retransmission m p a) }
 {
-    match mode {
-        State::NON_PRIM => true,
-        State::EXCHANGE_ACTIONS => true,
-        _ => false,
-    }
+    matches!(mode, State::NON_PRIM | State::EXCHANGE_ACTIONS)
 }
 
 pub fn on_retransmission(
@@ -102,26 +97,26 @@ pub fn on_retransmission(
     position: u32,
     head: ActionHead,
     payload: &[u8],
-) -> Answer
+) -> Result<Taken, Refusal>
     requires { LentSuch (InForce h (retransmission sender position (action_of head payload.now))) state.old out.old }
-    ensures { Acts (retransmission sender position (action_of head payload.now)) result state out }
+    ensures { Acts (retransmission sender position (action_of head payload.now)) (answer_of result) state out }
 {
     if !takes_retransmission(h.mode) {
-        return Answer::refused(NOT_NOW);
+        return Err(Refusal::NotNow);
     }
     if !numbered_own(h, head.creator, head.index) {
-        return Answer::refused(NOT_NOW);
+        return Err(Refusal::NotNow);
     }
     if !is_member(h, sender) {
-        return Answer::refused(NOT_FROM_HERE);
+        return Err(Refusal::NotFromHere);
     }
     if h.mode == State::EXCHANGE_ACTIONS {
         let x = pass_at(state, position, head);
-        return exchange(state, out, position, x, payload);
+        return Ok(exchange(state, out, position, x, payload));
     }
     let x = pass(state, head);
     red(state, x, payload);
-    Answer::quiet()
+    Ok(Taken::quiet())
 }
 
 // Row 6 does not apply to the State of server k in configuration `id`.
@@ -129,42 +124,31 @@ fn state_from_member(h: State, k: u8, id: u32) -> bool
     requires { k < most_servers_limit }
     ensures { FromMember k id h result }
 {
-    if !is_member(h, k) {
-        return false;
-    }
-    if !is_of(h, id) {
-        return false;
-    }
-    !state_in(h, k)
+    is_member(h, k) && is_of(h, id) && !state_in(h, k)
 }
 
 // The State of server k in configuration `id`: the whole event.
-pub fn on_state(state: &mut [u8], out: &mut [u8], h: State, k: u8, id: u32, event: &[u8]) -> Answer
+pub fn on_state(state: &mut [u8], out: &mut [u8], h: State, k: u8, id: u32, event: &[u8]) -> Result<Taken, Refusal>
     requires { LentSuch (StateInForce h k id event.now) state.old out.old }
-    ensures { AnswersState k id event.now result state out }
+    ensures { AnswersState k id event.now (answer_of result) state out }
 {
     if h.mode == State::NON_PRIM {
-        return Answer::quiet();
+        return Ok(Taken::quiet());
     }
     if h.mode != State::EXCHANGE_STATES {
-        return Answer::refused(NOT_NOW);
+        return Err(Refusal::NotNow);
     }
     if !state_from_member(h, k, id) {
-        return Answer::refused(NOT_FROM_HERE);
+        return Err(Refusal::NotFromHere);
     }
-    collect(state, out, k, event)
+    Ok(collect(state, out, k, event))
 }
 
 // Whether a state takes a CPC.
 fn takes_cpc(mode: u8) -> bool
     ensures { (m : Mode) (k : ℕ) → mode ≡ mode_number m → result ≡ is_there (on_cpc m k) }
 {
-    match mode {
-        State::NON_PRIM => true,
-        State::CONSTRUCT => true,
-        State::NO => true,
-        _ => false,
-    }
+    matches!(mode, State::NON_PRIM | State::CONSTRUCT | State::NO)
 }
 
 // Row 6 does not apply to the CPC of server k in configuration `id`.
@@ -172,73 +156,67 @@ fn cpc_from_member(h: State, k: u8, id: u32) -> bool
     requires { k < most_servers_limit }
     ensures { (s : Server) → h ≡ header_of s → result ≡ from_member s.membership (cpc k id) }
 {
-    if !is_member(h, k) {
-        return false;
-    }
-    if !is_of(h, id) {
-        return false;
-    }
-    !cpc_in(h, k)
+    is_member(h, k) && is_of(h, id) && !cpc_in(h, k)
 }
 
-pub fn on_cpc(state: &mut [u8], out: &mut [u8], h: State, k: u8, id: u32) -> Answer
+pub fn on_cpc(state: &mut [u8], out: &mut [u8], h: State, k: u8, id: u32) -> Result<Taken, Refusal>
     requires { LentSuch (InForce h (cpc k id)) state.old out.old }
-    ensures { AnswersTo (cpc k id) result state out }
+    ensures { AnswersTo (cpc k id) (answer_of result) state out }
 {
     if h.mode == State::NON_PRIM {
-        return Answer::quiet();
+        return Ok(Taken::quiet());
     }
     if !takes_cpc(h.mode) {
-        return Answer::refused(NOT_NOW);
+        return Err(Refusal::NotNow);
     }
     if !cpc_from_member(h, k, id) {
-        return Answer::refused(NOT_FROM_HERE);
+        return Err(Refusal::NotFromHere);
     }
     if h.mode == State::CONSTRUCT {
-        return collect_cpc(state, out, k);
+        return Ok(collect_cpc(state, out, k));
     }
     collect_late_cpc(state, k);
-    Answer::quiet()
+    Ok(Taken::quiet())
 }
 
-pub fn on_regular(state: &mut [u8], out: &mut [u8], h: State, id: u32, set: u8) -> Answer
+pub fn on_regular(state: &mut [u8], out: &mut [u8], h: State, id: u32, set: u8) -> Result<Taken, Refusal>
     requires { LentSuch (InForce h (regular id set)) state.old out.old }
-    ensures { AnswersTo (regular id set) result state out }
+    ensures { AnswersTo (regular id set) (answer_of result) state out }
 {
     if !regular_due(h) {
-        return Answer::refused(NOT_NOW);
+        return Err(Refusal::NotNow);
     }
     let mode = h.mode;
     match mode {
-        State::NON_PRIM => join(state, out, id, set),
-        State::UN => join(state, out, id, set),
-        State::NO => join_unmarked(state, out, id, set),
-        State::TRANS_PRIM => join_yellow(state, out, id, set),
-        _ => Answer::refused(NOT_NOW),
+        State::NON_PRIM => Ok(join(state, out, id, set)),
+        State::UN => Ok(join(state, out, id, set)),
+        State::NO => Ok(join_unmarked(state, out, id, set)),
+        State::TRANS_PRIM => Ok(join_yellow(state, out, id, set)),
+        _ => Err(Refusal::NotNow),
     }
 }
 
-pub fn on_transitional(state: &mut [u8], h: State, set: u8) -> Answer
+pub fn on_transitional(state: &mut [u8], h: State, set: u8) -> Result<Taken, Refusal>
     requires { HoldsSuch (InForce h (transitional set)) state.old }
-    ensures { AnswersToAlone (transitional set) result state }
+    ensures { AnswersToAlone (transitional set) (answer_of result) state }
 {
     let mode = after_transitional(h.mode);
     if mode == NO_MODE {
-        return Answer::refused(NOT_NOW);
+        return Err(Refusal::NotNow);
     }
     if !transitional_due(h) {
-        return Answer::refused(NOT_NOW);
+        return Err(Refusal::NotNow);
     }
     leave(state, mode, set);
-    Answer::quiet()
+    Ok(Taken::quiet())
 }
 
-pub fn on_request(state: &mut [u8], out: &mut [u8], h: State, payload: &[u8]) -> Answer
+pub fn on_request(state: &mut [u8], out: &mut [u8], h: State, payload: &[u8]) -> Result<Taken, Refusal>
     requires { LentSuch (InForce h (request_record payload.now)) state.old out.old }
-    ensures { AnswersTo (request_record payload.now) result state out }
+    ensures { AnswersTo (request_record payload.now) (answer_of result) state out }
 {
     if !quota_left(h, count_of(state, h.me)) {
-        return Answer::refused(QUOTA_USED);
+        return Err(Refusal::QuotaUsed);
     }
-    request(state, out, h, payload)
+    Ok(request(state, out, h, payload))
 }

@@ -9,10 +9,10 @@ ghost use Rattle.image.specs.Holding.{Holds, HoldsSuch, Becomes};
 ghost use Rattle.updates.specs.Standing.{vote_numbers};
 ghost use Rattle.exchange.specs.Decided.{votes_numbers};
 ghost use Rattle.outgoing.specs.Lent.{LentSuch};
-ghost use Rattle.step.specs.Answers.{Came, AnswersFor, AnswersBy};
+ghost use Rattle.step.specs.Answers.{taken_answer, Came, AnswersFor, AnswersBy};
 ghost use Rattle.step.specs.Events.{Ends, PlacedAt, Retransmitted, NotLast, AnswersPlanned, AnswersCollected, with_placed, exchanged_last};
 
-use crate::Answer;
+use crate::Taken;
 use crate::requests::send_all;
 use exchange::decided::{
     TakenVotes, all_states_in, planned_now, quorum_here, taken_votes, taken_yellow,
@@ -28,7 +28,7 @@ use updates::exchanges::{attempt, decide, one_more, resend};
 use updates::membership::set_mode;
 use updates::states::collect_state;
 use updates::votes::VoteNumbers;
-use writer::records::{Written, write_cpc};
+use writer::records::write_cpc;
 
 // ---- the end
 
@@ -62,33 +62,30 @@ fn decide_all(state: &mut [u8])
 }
 
 // "attempt + 1, mark .., store, send CPC, Construct"
-fn attempt_primary(state: &mut [u8], out: &mut [u8]) -> Answer
+fn attempt_primary(state: &mut [u8], out: &mut [u8]) -> Taken
     requires { LentSuch (Ends true) state.old out.old }
-    ensures { AnswersFor end_exchange result state out }
+    ensures { AnswersFor end_exchange (taken_answer result) state out }
 {
     let h = load(state);
-    let w = write_cpc(out, h.me, h.configuration_id);
-    let Written::Next(sent) = w else {
-        return Answer::quiet();
-    };
+    let sent = write_cpc(out, h.me, h.configuration_id).unwrap_or(0);
     decide_all(state);
     attempt(state);
-    Answer::stored(sent as u32)
+    Taken::stored(sent as u32)
 }
 
 // "else store, Non_prim": what waits is sent.
-fn stay(state: &mut [u8], out: &mut [u8]) -> Answer
+fn stay(state: &mut [u8], out: &mut [u8]) -> Taken
     requires { LentSuch (Ends false) state.old out.old }
-    ensures { AnswersFor end_exchange result state out }
+    ensures { AnswersFor end_exchange (taken_answer result) state out }
 {
     decide_all(state);
     send_all(state, out)
 }
 
 // "the exchange ends": every State is in, and the state has become Non_prim already, in which every number and list may change alone.
-fn end_exchange(state: &mut [u8], out: &mut [u8]) -> Answer
+fn end_exchange(state: &mut [u8], out: &mut [u8]) -> Taken
     requires { LentSuch (λ t. Configured t × (t.membership.mode ≡ Non_prim)) state.old out.old }
-    ensures { AnswersFor end_exchange result state out }
+    ensures { AnswersFor end_exchange (taken_answer result) state out }
 {
     if quorum_here(state) {
         return attempt_primary(state, out);
@@ -99,19 +96,19 @@ fn end_exchange(state: &mut [u8], out: &mut [u8]) -> Answer
 // ---- States
 
 // One's part of the plan is sent, and the retransmissions are awaited.
-fn await_actions(state: &mut [u8], out: &mut [u8]) -> Answer
+fn await_actions(state: &mut [u8], out: &mut [u8]) -> Taken
     requires { LentSuch (λ t. (all_states_in t ≡ true) × (t.membership.mode ≡ Exchange_states)) state.old out.old }
-    ensures { AnswersPlanned result state out }
+    ensures { AnswersPlanned (taken_answer result) state out }
 {
     let sent = send_part(state, out);
     resend(state);
-    Answer::sent(sent)
+    Taken::sent(sent)
 }
 
 // All States are in.
-fn after_states(state: &mut [u8], out: &mut [u8]) -> Answer
+fn after_states(state: &mut [u8], out: &mut [u8]) -> Taken
     requires { LentSuch (λ t. (all_states_in t ≡ true) × (t.membership.mode ≡ Exchange_states)) state.old out.old }
-    ensures { AnswersFor after_states result state out }
+    ensures { AnswersFor after_states (taken_answer result) state out }
 {
     if planned_now(state) != 0 {
         return await_actions(state, out);
@@ -121,13 +118,13 @@ fn after_states(state: &mut [u8], out: &mut [u8]) -> Answer
 }
 
 // "When every member's State is in: send one's part of the plan, to Exchange_actions." The State of server k is the whole event.
-pub fn collect(state: &mut [u8], out: &mut [u8], k: u8, event: &[u8]) -> Answer
+pub fn collect(state: &mut [u8], out: &mut [u8], k: u8, event: &[u8]) -> Taken
     requires { LentSuch (Came k event.now) state.old out.old }
-    ensures { AnswersCollected event.now result state out }
+    ensures { AnswersCollected event.now (taken_answer result) state out }
 {
     collect_state(state, k, event);
     if !all_states_in(state) {
-        return Answer::quiet();
+        return Taken::quiet();
     }
     after_states(state, out)
 }
@@ -187,9 +184,9 @@ pub fn exchange(
     position: u32,
     head: ActionHead,
     payload: &[u8],
-) -> Answer
+) -> Taken
     requires { LentSuch (Retransmitted position (action_of head payload.now)) state.old out.old }
-    ensures { AnswersBy (exchanged_by position (action_of head payload.now)) result state out }
+    ensures { AnswersBy (exchanged_by position (action_of head payload.now)) (taken_answer result) state out }
 {
     let planned = planned_now(state);
     let come = num32(state, record::State::AT_COME);
@@ -198,5 +195,5 @@ pub fn exchange(
         return end_exchange(state, out);
     }
     take_in(state, position, head, payload);
-    Answer::quiet()
+    Taken::quiet()
 }

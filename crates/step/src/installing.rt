@@ -9,11 +9,11 @@ ghost use Rattle.replication.specs.Machine.WellFormedFacts.{Configured};
 ghost use Rattle.replication.specs.Laws.RuleFits.{Delivered};
 ghost use Rattle.image.specs.Holding.{HoldsSuch, Becomes};
 ghost use Rattle.outgoing.specs.Lent.{LentSuch};
-ghost use Rattle.step.specs.Answers.{Installs, with_late_cpc, AnswersBy, AnswersFor};
+ghost use Rattle.step.specs.Answers.{taken_answer, Installs, with_late_cpc, AnswersBy, AnswersFor};
 ghost use Rattle.updates.specs.Lists.{BecomesIn};
 ghost use Rattle.step.specs.Events.{BecomesInstalled};
 
-use crate::Answer;
+use crate::Taken;
 use crate::colours::yellow;
 use crate::requests::send_all;
 use crate::sieve::pass;
@@ -52,22 +52,22 @@ pub fn late_install(state: &mut [u8], head: ActionHead, payload: &[u8])
 }
 
 // "Install, to Reg_prim"
-fn install_all(state: &mut [u8], out: &mut [u8]) -> Answer
+fn install_all(state: &mut [u8], out: &mut [u8]) -> Taken
     requires { LentSuch (λ t. Configured t × (t.votes.last.index < most_index_limit)) state.old out.old }
-    ensures { AnswersFor installing result state out }
+    ensures { AnswersFor installing (taken_answer result) state out }
 {
     install_in(state, State::REG_PRIM);
     send_all(state, out)
 }
 
 // "Construct: when every member's CPC is in: Install, to Reg_prim"
-pub fn collect_cpc(state: &mut [u8], out: &mut [u8], k: u8) -> Answer
+pub fn collect_cpc(state: &mut [u8], out: &mut [u8], k: u8) -> Taken
     requires { LentSuch (λ s. (k < s.servers) × (s.membership.mode ≡ Construct)) state.old out.old }
-    ensures { AnswersBy (collect_cpc k) result state out }
+    ensures { AnswersBy (collect_cpc k) (taken_answer result) state out }
 {
     add_cpc(state, k);
     if !all_cpcs_in(state) {
-        return Answer::quiet();
+        return Taken::quiet();
     }
     install_all(state, out)
 }
@@ -78,8 +78,7 @@ pub fn collect_late_cpc(state: &mut [u8], k: u8)
     ensures { Becomes (with_late_cpc k) state.old state.new }
 {
     add_cpc(state, k);
-    if !all_cpcs_in(state) {
-        return;
+    if all_cpcs_in(state) {
+        set_mode(state, State::UN);
     }
-    set_mode(state, State::UN);
 }

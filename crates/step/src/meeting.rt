@@ -11,7 +11,7 @@ ghost use Rattle.step.specs.Meeting.{met, Meets};
 use guards::{is_member, numbered_own};
 use image::header::load;
 use install::installing::install_log;
-use reader::{Reading, read};
+use reader::read;
 use record::events::Event;
 use record::{ActionHead, State};
 
@@ -19,10 +19,7 @@ use record::{ActionHead, State};
 fn lets_pass(h: State, a: ActionHead) -> bool
     ensures { (s : Server) (p : List ℕ) → h ≡ header_of s → s.membership.mode ≡ Un → Meets result s (action (action_of a p)) }
 {
-    if !numbered_own(h, a.creator, a.index) {
-        return false;
-    }
-    is_member(h, a.creator)
+    numbered_own(h, a.creator, a.index) && is_member(h, a.creator)
 }
 
 // In Un: the event does Install before anything else.
@@ -31,13 +28,7 @@ fn installs_first(h: State, v: Event) -> bool
 {
     match v {
         Event::Action(a) => lets_pass(h, a.head),
-        Event::Retransmission { .. } => false,
-        Event::State(_) => false,
-        Event::Cpc { .. } => false,
-        Event::Regular { .. } => false,
-        Event::Transitional { .. } => false,
-        Event::Request { .. } => false,
-        Event::Recovery => false,
+        _ => false,
     }
 }
 
@@ -50,8 +41,7 @@ pub fn meet(state: &mut [u8], event: &[u8])
     if h.mode != State::UN {
         return;
     }
-    let r = read(h.context(), event);
-    let Reading::Good(v) = r else {
+    let Ok(v) = read(h.context(), event) else {
         return;
     };
     if installs_first(h, v) {

@@ -1,9 +1,9 @@
-use Rattle.queries.proofs.SummaryLaws.{summary_refused, summary_some, summary_queue, summary_header, summary_counts, summary_sent, summary_read}
+use Rattle.queries.proofs.SummaryLaws.{above_zero, summary_refused, summary_some, summary_queue, summary_header, summary_counts, summary_sent, summary_read}
 use borrow.Author.Rules.{rules}
 use Rattle.queries.proofs.summary_on.Goals as goal
 
-pub returns-then-number-ne0 : goal.returns-then-number-ne0
-returns-then-number-ne0 c = search (rules, summary_refused)
+pub returns-in-Err : goal.returns-in-Err
+returns-in-Err c = search (rules, summary_refused, above_zero)
 
 pub resent_planned-planned-requires : goal.resent_planned-planned-requires
 resent_planned-planned-requires c = search (rules, summary_some)
@@ -20,5 +20,5 @@ white_length-requires c = search (rules, summary_queue)
 pub of-requires : goal.of-requires
 of-requires c = search (rules, summary_counts, summary_sent)
 
-pub returns : goal.returns
-returns c = search (rules, summary_read)
+pub returns-in-Ok : goal.returns-in-Ok
+returns-in-Ok c = search (rules, summary_read)

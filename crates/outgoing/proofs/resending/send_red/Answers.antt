@@ -1,4 +1,4 @@
-use Rattle.outgoing.proofs.PlanLaws.{stated_creator, red_none, red_room, red_high, red_sent}
+use Rattle.outgoing.proofs.PlanLaws.{stated_creator, red_none, part_room, red_high, red_sent}
 use borrow.Author.Rules.{rules}
 use Rattle.outgoing.proofs.resending.send_red.Goals as goal
 
@@ -11,7 +11,7 @@ returns-then-not-part c = search (rules, red_none)
 pub send_creator-requires : goal.send_creator-requires
 send_creator-requires c =
     let e = c.resends_red-part.ensures in
-    (record { tabled = search rules; creator = search rules; most = red_high _ _ _ e (search rules) }, search (rules, red_room _ _ _ e))
+    (record { tabled = search rules; creator = search rules; most = red_high _ _ _ e (search rules) }, search (rules, part_room _ _ _ e))
 
 pub returns : goal.returns
 returns c = search (rules, red_sent)

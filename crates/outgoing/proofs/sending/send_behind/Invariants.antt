@@ -6,7 +6,4 @@ use Rattle.outgoing.proofs.sending.send_behind.Given as goal
 
 abbrev pub invariant-loop-p : goal.invariant-loop-p
 invariant-loop-p l =
-    (l.low ≤ l.p) × (l.p - l.low ≤ l.high - l.low) × Sends (l.p - l.low) (gather (own_at l.state) (above l.low l.p)) 0 l.initial.out l.out l.next
-
-abbrev pub decreases-loop-p : goal.decreases-loop-p
-decreases-loop-p l = l.high - l.p
+    (l.p - l.low ≤ l.high - l.low) × Sends (l.p - l.low) (gather (own_at l.state) (above l.low l.p)) l.initial.out l.out l.sent

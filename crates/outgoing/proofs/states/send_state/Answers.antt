@@ -1,4 +1,4 @@
-use Rattle.outgoing.proofs.StateLaws.{state_full, state_small, state_done}
+use Rattle.outgoing.proofs.StateLaws.{state_small, state_done}
 use Rattle.outgoing.proofs.LentLaws.{lent_header, lent_yellow, lent_counts, lent_queue}
 use borrow.Author.Rules.{rules}
 use Rattle.outgoing.proofs.states.send_state.Goals as goal
@@ -21,11 +21,9 @@ slice_bounds-write_state-count-2 c = search (rules, lent_yellow)
 pub slice_bounds-write_state-start-2 : goal.slice_bounds-write_state-start-2
 slice_bounds-write_state-start-2 c = search (rules, lent_yellow)
 
-pub returns-in_default : goal.returns-in_default
-returns-in_default c = state_full _ _ _ _ _ _ _ c.requires c.own_numbers-head.ensures c.place_of-at.ensures c.write_state-w.ensures (search rules) _
-
 pub overflow_cast-result : goal.overflow_cast-result
 overflow_cast-result c = search (rules, state_small)
 
 pub returns : goal.returns
-returns c = state_done _ _ _ _ _ _ _ c.requires c.own_numbers-head.ensures c.place_of-at.ensures c.write_state-w.ensures _ (search rules)
+returns c =
+    state_done _ _ _ _ _ _ _ _ c.requires c.own_numbers-head.ensures c.place_of-at.ensures c.write_state-size.ensures c.unwrap_or.ensures

@@ -8,9 +8,6 @@ loop-k-init c = search (rules, along_starts)
 pub green_slot-requires : goal.green_slot-requires
 green_slot-requires c = search (rules, along_behind, along_inside)
 
-pub overflow_sub-k : goal.overflow_sub-k
-overflow_sub-k c = search (rules, along_low)
-
 pub put-requires : goal.put-requires
 put-requires c = search (rules, along_few)
 
@@ -22,9 +19,6 @@ put_entry-requires c = search (rules, slot_inside, along_room)
 
 pub loop-k-preserved : goal.loop-k-preserved
 loop-k-preserved c = search (rules, along_on)
-
-pub overflow_sub-k-2 : goal.overflow_sub-k-2
-overflow_sub-k-2 c = search (rules, along_low)
 
 pub put-requires-2 : goal.put-requires-2
 put-requires-2 c = search (rules, along_few)

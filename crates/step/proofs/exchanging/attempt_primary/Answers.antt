@@ -1,39 +1,19 @@
-use Rattle.step.proofs.EndLaws.{attempt_full, attempt_some, attempt_short, attempt_made}
+use Rattle.step.proofs.EndLaws.{attempt_some, attempt_short, attempt_made}
 use Rattle.outgoing.proofs.LentLaws.{lent_header}
 use native.Mathlib.Omega.{arith}
-use borrow.Author.Rules.{rules}
 use Rattle.step.proofs.exchanging.attempt_primary.Goals as goal
 
 pub load-h-requires : goal.load-h-requires
 load-h-requires c = lent_header _ _ _ c.requires
 
-pub returns-in_default : goal.returns-in_default
-returns-in_default c = search (rules, attempt_full)
-
 pub attempt-requires : goal.attempt-requires
-attempt-requires c =
-    attempt_some _ _
-    c.requires _
-    c.decide_all.ensures
+attempt-requires c = attempt_some _ _ c.requires _ c.decide_all.ensures
 
 pub overflow_cast-sent : goal.overflow_cast-sent
 overflow_cast-sent c =
-    omega (
-      arith,
-      attempt_short _ _
-          c.requires
-          _ c.load-h.ensures
-          _ _ c.write_cpc-w.ensures _
-          c.in-Next.is,
-    )
+    omega (arith, attempt_short _ _ c.requires _ c.load-h.ensures _ _ c.write_cpc.ensures _ c.unwrap_or-sent.ensures)
 
 pub returns : goal.returns
 returns c =
-    attempt_made _ _
-    c.requires
-    _
-    c.load-h.ensures
-    _ _ c.write_cpc-w.ensures
-    _ c.in-Next.is _ _
-    c.decide_all.ensures c.attempt.ensures _
+    attempt_made _ _ c.requires _ c.load-h.ensures _ _ c.write_cpc.ensures _ c.unwrap_or-sent.ensures _ _ c.decide_all.ensures c.attempt.ensures _
     c.stored.ensures

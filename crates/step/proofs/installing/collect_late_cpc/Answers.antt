@@ -1,7 +1,4 @@
 use Rattle.step.proofs.InstallingLaws.{cpc_room, late_some, late_header, late_waiting, late_complete}
-use borrow.Author.Tests.{not-true, not-false}
-use mathlib.Core.Path.{ap}
-use mathlib.Core.Bool.{not}
 use Rattle.step.proofs.installing.collect_late_cpc.Goals as goal
 
 pub add_cpc-requires : goal.add_cpc-requires
@@ -10,13 +7,12 @@ add_cpc-requires c = cpc_room _ _ _ c.requires.holds c.requires.fact.0
 pub all_cpcs_in-requires : goal.all_cpcs_in-requires
 all_cpcs_in-requires c = late_some _ _ _ c.requires c.add_cpc.ensures
 
-pub returns-then-not-all_cpcs_in : goal.returns-then-not-all_cpcs_in
-returns-then-not-all_cpcs_in c =
+pub returns-else-all_cpcs_in : goal.returns-else-all_cpcs_in
+returns-else-all_cpcs_in c =
     late_waiting _ _ _
     c.requires
     c.add_cpc.ensures
-    _ c.all_cpcs_in.ensures
-    (not-true _ (ap not c.if-not-all_cpcs_in.true))
+    _ c.all_cpcs_in.ensures c.if-all_cpcs_in.false
 
 pub set_mode-requires : goal.set_mode-requires
 set_mode-requires c =
@@ -24,11 +20,11 @@ set_mode-requires c =
     c.requires
     c.add_cpc.ensures
 
-pub returns : goal.returns
-returns c =
+pub returns-then-all_cpcs_in : goal.returns-then-all_cpcs_in
+returns-then-all_cpcs_in c =
     late_complete _ _ _
     c.requires
     c.add_cpc.ensures
     _ c.all_cpcs_in.ensures
-    _ (not-false _ (ap not c.if-not-all_cpcs_in.false))
+    _ c.if-all_cpcs_in.true
     c.set_mode.ensures

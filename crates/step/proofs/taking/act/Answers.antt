@@ -1,21 +1,22 @@
-use Rattle.step.proofs.ReadingLaws.{ready_header, act_unread, act_ready, act_ignored, act_taken}
+use Rattle.step.proofs.ReadingLaws.{above_zero, ready_header, act_unread, act_ready, act_refused, act_taken}
+use mathlib.Core.Path.{refl}
 use borrow.Author.Rules.{rules}
 use Rattle.step.proofs.taking.act.Goals as goal
 
 pub load-h-requires : goal.load-h-requires
 load-h-requires c = search (rules, ready_header)
 
-pub returns-in_default : goal.returns-in_default
-returns-in_default c =
-    act_unread _ _ _ c.requires _ c.load-h.ensures _ c.context.ensures _ c.read-r.ensures.e_value _ _ _ c.in_default.is c.number_of.ensures c.refused.ensures
+pub returns-in_err-v : goal.returns-in_err-v
+returns-in_err-v c =
+    act_unread _ _ _ c.requires _ c.load-h.ensures _ c.context.ensures _ c.read.ensures.e_value _ c.in_err-v.was
 
-pub on_event-answer-requires : goal.on_event-answer-requires
-on_event-answer-requires c = search (rules, act_ready)
+pub on_event-requires : goal.on_event-requires
+on_event-requires c = search (rules, act_ready)
 
-pub returns-then-ignored : goal.returns-then-ignored
-returns-then-ignored c =
-    act_ignored _ _ _ c.requires _ c.load-h.ensures _ c.context.ensures _ c.read-r.ensures.e_value _ c.in-Good.is _ _ _ c.on_event-answer.ensures _ c.is_ignored-ignored.ensures c.if-ignored.true
+pub returns-in_err-taken : goal.returns-in_err-taken
+returns-in_err-taken c =
+    act_refused _ _ _ c.requires _ c.load-h.ensures _ c.context.ensures _ c.read.ensures.e_value _ c.in_ok-v.was _ _ _ c.in_err-taken.ensures _ c.is_ignored-ignored.ensures (above_zero _)
 
 pub returns : goal.returns
 returns c =
-    act_taken _ _ _ c.requires _ c.load-h.ensures _ c.context.ensures _ c.read-r.ensures.e_value _ c.in-Good.is _ _ _ c.on_event-answer.ensures _ c.is_ignored-ignored.ensures c.if-ignored.false
+    act_taken _ _ _ c.requires _ c.load-h.ensures _ c.context.ensures _ c.read.ensures.e_value _ c.in_ok-v.was _ _ _ c.in_ok-taken.ensures _ c.is_ignored-ignored.ensures refl

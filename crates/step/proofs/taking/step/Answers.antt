@@ -1,10 +1,15 @@
-use Rattle.step.proofs.RaiseLaws.{raise_ready, step_raised}
+use Rattle.step.proofs.RaiseLaws.{raise_ready, step_raised, step_unraised}
+use mathlib.Core.Path.{refl}
 use Rattle.step.proofs.taking.step.Goals as goal
+
+pub returns-in_err-a : goal.returns-in_err-a
+returns-in_err-a c =
+    step_unraised _ _ _ c.requires _ _ _ _ c.in_err-a.ensures refl
 
 pub raise-requires : goal.raise-requires
 raise-requires c =
-    raise_ready _ _ _ c.requires _ _ _ c.act-a.ensures
+    raise_ready _ _ _ c.requires _ _ _ _ c.in_ok-a.ensures
 
 pub returns : goal.returns
 returns c =
-    step_raised _ _ _ c.requires _ _ _ c.act-a.ensures _ c.raise.ensures
+    step_raised _ _ _ c.requires _ _ _ _ c.in_ok-a.ensures _ c.raise.ensures
