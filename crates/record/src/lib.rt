@@ -119,6 +119,7 @@ impl ActionHead {
 
 // What a record is read against. `configured` is 0 where there was no regular configuration since the start or the last
 // recovery; `set` is then not looked at.
+// Stays: no plainer as an Option, since both are bytes of the image and `last_of` names what they say.
 #[derive(Clone, Copy)]
 pub struct Context {
     pub servers: u8,
@@ -130,6 +131,7 @@ pub struct Context {
 
 // The numbers of a server's state, in the order of its buffer. Its lists lie beside them. The queue holds what is not white: `green_count` is how
 // many of its first actions are green.
+// Stays: the image's layout (docs/LAYOUT.md) has statuses and the mode as bytes, and a damaged image may have any byte there.
 #[derive(Clone, Copy)]
 pub struct State {
     pub layout: u8,

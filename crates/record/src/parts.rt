@@ -44,15 +44,16 @@ pub fn action_at(e: &[u8], at: usize) -> ActionAt
     requires { at + action_head_size ≤ length e.now }
     ensures { result ≡ action_in e.now at }
 {
+    let id = id_at(e, at);
     ActionAt {
         head: ActionHead {
-            creator: num8(e, at),
-            index: num16(e, at + ActionHead::INDEX),
+            creator: id.creator,
+            index: id.index,
             green_length: num32(e, at + ActionHead::GREEN_LENGTH),
             white_length: num32(e, at + ActionHead::WHITE_LENGTH),
         },
         payload_at: at + ActionHead::SIZE,
-        payload_length: num8(e, at + ActionHead::PAYLOAD) as usize,
+        payload_length: usize::from(num8(e, at + ActionHead::PAYLOAD)),
     }
 }
 
