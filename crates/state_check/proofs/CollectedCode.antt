@@ -19,12 +19,11 @@ use Rattle.record.specs.Events.{state_from, record_of}
 use Rattle.reader.specs.Reading.{meaning}
 use Rattle.record.specs.Values.{state_of}
 use Rattle.record.specs.declared.Context.{Context}
-use Rattle.record.specs.declared.events.ActionAt.{ActionAt}
 use Rattle.record.specs.declared.events.StateAt.{StateAt}
 use Rattle.record.specs.declared.events.Event.{Event}
 use Rattle.record.specs.declared.events.Event.TheVariants.{Action, Retransmission, State, Cpc, Regular, Transitional, Request, Recovery}
-use Rattle.reader.specs.declared.Reading.{Reading}
-use Rattle.reader.specs.declared.Reading.TheVariants.{Good, Refused}
+use Rattle.std.specs.Prelude.{Result, Ok, Err}
+use Rattle.refusals.specs.declared.Refusal.{Refusal}
 use Rattle.image.specs.Layout.{state_size}
 use Rattle.state_check.specs.Numbers.{yellow_count_ok}
 use Rattle.state_check.specs.Collected.{is_state, says_state, ids_in_slot, slot_record, holds_state, collected_ok, StatesInside}
@@ -36,34 +35,6 @@ module _ (k i : ℕ) (v : Event) (e : List ℕ) where
   answers_as : (w : Event) (r : Bool) → v ≡ w → r ≡ is_state k i (record_of w e) → r ≡ is_state k i (record_of v e)
   answers_as w r f h = rw f h
 
-  pub no_action : (a : ActionAt) → v ≡ Action a → false ≡ is_state k i (record_of v e)
-  unfolding is_state record_of
-  no_action a f = answers_as (Action a) false f refl
-
-  pub no_retransmission : (s p : ℕ) (a : ActionAt) → v ≡ Retransmission s p a → false ≡ is_state k i (record_of v e)
-  unfolding is_state record_of
-  no_retransmission s p a f = answers_as (Retransmission s p a) false f refl
-
-  pub no_cpc : (s j : ℕ) → v ≡ Cpc s j → false ≡ is_state k i (record_of v e)
-  unfolding is_state record_of
-  no_cpc s j f = answers_as (Cpc s j) false f refl
-
-  pub no_regular : (j s : ℕ) → v ≡ Regular j s → false ≡ is_state k i (record_of v e)
-  unfolding is_state record_of
-  no_regular j s f = answers_as (Regular j s) false f refl
-
-  pub no_transitional : (s : ℕ) → v ≡ Transitional s → false ≡ is_state k i (record_of v e)
-  unfolding is_state record_of
-  no_transitional s f = answers_as (Transitional s) false f refl
-
-  pub no_request : (at m : ℕ) → v ≡ Request at m → false ≡ is_state k i (record_of v e)
-  unfolding is_state record_of
-  no_request at m f = answers_as (Request at m) false f refl
-
-  pub no_recovery : v ≡ Recovery → false ≡ is_state k i (record_of v e)
-  unfolding is_state record_of
-  no_recovery f = answers_as Recovery false f refl
-
   pub other_sender : (s : StateAt) → v ≡ State s → (s.head.sender ≡ k → ⊥) → false ≡ is_state k i (record_of v e)
   unfolding is_state record_of state_from state_of
   other_sender s f h = answers_as (State s) false f (and_no (s.head.sender =? k) (s.head.configuration =? i) (eq_no _ _ h))
@@ -72,13 +43,24 @@ module _ (k i : ℕ) (v : Event) (e : List ℕ) where
   unfolding is_state record_of state_from state_of
   this_sender s f h = answers_as (State s) _ f (and_yes _ (s.head.sender =? k) (s.head.configuration =? i) (eq_yes _ _ h) (told_eq s.head.configuration i))
 
+pub other_event : (k i : ℕ) (v : Event) (e : List ℕ) → ((s : StateAt) → v ≡ State s → ⊥) → false ≡ is_state k i (record_of v e)
+unfolding is_state record_of
+other_event k i (Action a) e n = refl
+other_event k i (Retransmission s p a) e n = refl
+other_event k i (State s) e n = absurd (n s refl)
+other_event k i (Cpc s j) e n = refl
+other_event k i (Regular j s) e n = refl
+other_event k i (Transitional s) e n = refl
+other_event k i (Request at m) e n = refl
+other_event k i Recovery e n = refl
+
 -- ---- by the reading
 
-pub refused_state : (k i : ℕ) (r : Reading) (m : ℕ) (e : List ℕ) → r ≡ Refused m → false ≡ says_state k i (meaning r e)
+pub refused_state : (k i : ℕ) (r : Result Event Refusal) (m : Refusal) (e : List ℕ) → r ≡ Err m → false ≡ says_state k i (meaning r e)
 unfolding says_state meaning
 refused_state k i r m e f = rw f refl
 
-pub good_state : (k i : ℕ) (r : Reading) (v : Event) (t : Bool) (e : List ℕ) → r ≡ Good v → ((d : List ℕ) → t ≡ is_state k i (record_of v d))
+pub good_state : (k i : ℕ) (r : Result Event Refusal) (v : Event) (t : Bool) (e : List ℕ) → r ≡ Ok v → ((d : List ℕ) → t ≡ is_state k i (record_of v d))
     → t ≡ says_state k i (meaning r e)
 unfolding says_state meaning
 good_state k i r v t e f h = rw f (h e)
@@ -104,7 +86,7 @@ module _ (c : Context) (b : List ℕ) (at : ℕ) where
   unfolding holds_state ids_in_slot context_of
   slot_denied k i x t e f h = and_no (yellow_count_ok (context_of c) (number_at 2 b (at + (state_count_at + 2 * c.servers)))) _ (ap (yellow_count_ok (context_of c)) (sym e) ∙ sym f ∙ not-true t h)
 
-  pub slot_answered : (k i x : ℕ) (t u : Bool) (r : Reading) → x ≡ number_at 2 b (at + (state_count_at + 2 * c.servers)) → t ≡ yellow_count_ok (context_of c) x → not t ≡ false
+  pub slot_answered : (k i x : ℕ) (t u : Bool) (r : Result Event Refusal) → x ≡ number_at 2 b (at + (state_count_at + 2 * c.servers)) → t ≡ yellow_count_ok (context_of c) x → not t ≡ false
       → meaning r (take (at + (state_head_size + 2 * c.servers + id_size * x) - at) (drop at b)) ≡ read (context_of c) (take (at + (state_head_size + 2 * c.servers + id_size * x) - at) (drop at b))
       → ((e : List ℕ) → u ≡ says_state k i (meaning r e)) → u ≡ holds_state (context_of c) k i b at
   unfolding holds_state ids_in_slot slot_record part_at context_of
