@@ -1,4 +1,6 @@
 // Parts of a record, as a state's buffer holds them too, read where they lie.
+#![tactic(auto, unfolding(crate::specs::Events::action_in, crate::specs::Events::last_in, crate::specs::Events::mark_in, crate::specs::Events::head_in, crate::specs::Values::last_of, format::specs::Read::primary_at))]
+
 ghost use Rattle.std.specs.Prelude.{◌≡◌, ◌+◌, ◌≤◌, length};
 ghost use Rattle.format.specs.Places.{id_size, action_head_size, primary_size, mark_size, state_cuts_at, standing_size};
 ghost use Rattle.format.specs.Range.{same_id};
