@@ -1,4 +1,6 @@
 // Parts of a record, as a state's buffer holds them too, read where they lie.
+#![tactic(auto, unfolding(crate::specs::Events::action_in, crate::specs::Events::last_in, crate::specs::Events::mark_in, crate::specs::Events::head_in, crate::specs::Values::last_of, format::specs::Read::primary_at))]
+
 ghost use Rattle.std.specs.Prelude.{◌≡◌, ◌+◌, ◌≤◌, length};
 ghost use Rattle.format.specs.Places.{id_size, action_head_size, primary_size, mark_size, state_cuts_at, standing_size};
 ghost use Rattle.format.specs.Range.{same_id};
@@ -44,15 +46,16 @@ pub fn action_at(e: &[u8], at: usize) -> ActionAt
     requires { at + action_head_size ≤ length e.now }
     ensures { result ≡ action_in e.now at }
 {
+    let id = id_at(e, at);
     ActionAt {
         head: ActionHead {
-            creator: num8(e, at),
-            index: num16(e, at + ActionHead::INDEX),
+            creator: id.creator,
+            index: id.index,
             green_length: num32(e, at + ActionHead::GREEN_LENGTH),
             white_length: num32(e, at + ActionHead::WHITE_LENGTH),
         },
         payload_at: at + ActionHead::SIZE,
-        payload_length: num8(e, at + ActionHead::PAYLOAD) as usize,
+        payload_length: usize::from(num8(e, at + ActionHead::PAYLOAD)),
     }
 }
 
