@@ -7,7 +7,7 @@ ghost use Rattle.format.specs.Limits.{most_servers_limit};
 ghost use Rattle.image.specs.Layout.{header_size, at_states};
 ghost use Rattle.updates.specs.Lists.{state_place, NumberIn, CollectRoom, BecomesCollected};
 
-use image::places::{THE_STATES, place_of, state_size};
+use image::places::{Section, place_of, state_size};
 use octets::blocks::copy;
 use octets::numbers::{num8, num16, put8};
 use record::range::product;
@@ -20,7 +20,7 @@ pub fn state_place(state: &[u8], k: u8) -> usize
 {
     let n = num8(state, record::State::AT_SERVERS) as u32;
     let q = num16(state, record::State::AT_QUOTA) as u32;
-    place_of(state, THE_STATES) + product(k as u32, state_size(n, q)) as usize
+    place_of(state, Section::States) + product(k as u32, state_size(n, q)) as usize
 }
 
 // The set of senders, with server k.
