@@ -1,6 +1,4 @@
 // Parts of a record, as a state's buffer holds them too, read where they lie.
-#![tactic(auto, unfolding(crate::specs::Events::action_in, crate::specs::Events::last_in, crate::specs::Events::mark_in, crate::specs::Events::head_in, crate::specs::Values::last_of, format::specs::Read::primary_at))]
-
 ghost use Rattle.std.specs.Prelude.{◌≡◌, ◌+◌, ◌≤◌, length};
 ghost use Rattle.format.specs.Places.{id_size, action_head_size, primary_size, mark_size, state_cuts_at, standing_size};
 ghost use Rattle.format.specs.Range.{same_id};
@@ -42,6 +40,7 @@ pub fn is_id(e: &[u8], at: usize, creator: u8, index: u16) -> bool
 }
 
 // The action from `at` on.
+#[tactic(auto, unfolding(crate::specs::Events::action_in))]
 pub fn action_at(e: &[u8], at: usize) -> ActionAt
     requires { at + action_head_size ≤ length e.now }
     ensures { result ≡ action_in e.now at }
@@ -59,6 +58,7 @@ pub fn action_at(e: &[u8], at: usize) -> ActionAt
     }
 }
 
+#[tactic(auto, unfolding(crate::specs::Events::last_in, crate::specs::Values::last_of, format::specs::Read::primary_at))]
 pub fn last_at(e: &[u8], at: usize) -> LastPrimary
     requires { at + primary_size ≤ length e.now }
     ensures { result ≡ last_in e.now at }
@@ -70,6 +70,7 @@ pub fn last_at(e: &[u8], at: usize) -> LastPrimary
     }
 }
 
+#[tactic(auto, unfolding(crate::specs::Events::mark_in))]
 pub fn mark_at(e: &[u8], at: usize) -> Mark
     requires { at + mark_size ≤ length e.now }
     ensures { result ≡ mark_in e.now at }
@@ -84,6 +85,7 @@ pub fn mark_at(e: &[u8], at: usize) -> Mark
 }
 
 // The numbers of a State of this many servers. Those behind its cuts begin at `at`.
+#[tactic(auto, unfolding(crate::specs::Events::head_in))]
 pub fn state_head(e: &[u8], servers: u8, at: usize) -> StateHead
     requires { (state_cuts_at ≤ at) × (at + standing_size ≤ length e.now) }
     ensures { result ≡ head_in servers e.now at }
