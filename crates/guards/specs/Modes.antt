@@ -1,19 +1,16 @@
--- States by their numbers.
-use Rattle.std.specs.Prelude.{ℕ}
+-- Where a transitional configuration leads.
+use Rattle.std.specs.Prelude.{Option, Some, None}
+use Rattle.record.specs.declared.modes.Mode.{Mode as Code}
+use Rattle.record.specs.declared.modes.Mode.TheVariants as code
 use Rattle.replication.specs.Machine.Types.{Mode, Non_prim, Reg_prim, Trans_prim, Exchange_states, Exchange_actions, Construct, No, Un}
-use Rattle.image.specs.Header.{mode_number}
 
--- No state's number.
-abbrev pub no_mode : ℕ
-no_mode = 8
-
--- The number of the state that a transitional configuration leads to, if it can come.
-unfoldable pub mode_after : Mode → ℕ
-mode_after Non_prim = mode_number Non_prim
-mode_after Reg_prim = mode_number Trans_prim
-mode_after Trans_prim = no_mode
-mode_after Exchange_states = mode_number Non_prim
-mode_after Exchange_actions = mode_number Non_prim
-mode_after Construct = mode_number No
-mode_after No = no_mode
-mode_after Un = no_mode
+-- The state that a transitional configuration leads to, if it can come.
+unfoldable pub mode_after : Mode → Option Code
+mode_after Non_prim = Some code.NonPrim
+mode_after Reg_prim = Some code.TransPrim
+mode_after Trans_prim = None
+mode_after Exchange_states = Some code.NonPrim
+mode_after Exchange_actions = Some code.NonPrim
+mode_after Construct = Some code.No
+mode_after No = None
+mode_after Un = None

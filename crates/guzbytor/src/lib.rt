@@ -18,7 +18,9 @@ ghost use Rattle.register_step.specs.Burst.{AnswersAll};
 use burst::BurstAnswer;
 use image::Lengths;
 use queries::{GreenEntries, Summary};
+use refusals::outcome_number;
 use register_check::RegisterFind;
+use register_check::refusing::answer_number;
 use register_step::{RegisterAnswer, RegisterBurst};
 use step::Answer;
 
@@ -86,14 +88,14 @@ pub extern "C" fn guzbytor_register_length() -> u32
 pub extern "C" fn guzbytor_register_start(register: &mut [u8]) -> u32
     ensures { changed result register.new ≡ empty_on register.old }
 {
-    register::start(register)
+    outcome_number(register::start(register))
 }
 
 #[unsafe(no_mangle)]
 pub extern "C" fn guzbytor_register_apply(register: &mut [u8], payload: &[u8]) -> u32
     ensures { changed result register.new ≡ apply_on register.old payload.now }
 {
-    register::apply_on(register, payload)
+    answer_number(register::apply_on(register, payload))
 }
 
 #[unsafe(no_mangle)]
@@ -114,7 +116,8 @@ pub extern "C" fn guzbytor_register_rectangle(
 ) -> u32
     ensures { AnswersRegion result (rectangle west south east north) register.now answer }
 {
-    register_queries::in_rectangle(register, west, south, east, north, answer)
+    let asked = register_queries::in_rectangle(register, west, south, east, north, answer);
+    answer_number(asked)
 }
 
 #[unsafe(no_mangle)]
@@ -127,7 +130,8 @@ pub extern "C" fn guzbytor_register_radius(
 ) -> u32
     ensures { AnswersRegion result (disc easting northing radius) register.now answer }
 {
-    register_queries::in_radius(register, easting, northing, radius, answer)
+    let asked = register_queries::in_radius(register, easting, northing, radius, answer);
+    answer_number(asked)
 }
 
 #[unsafe(no_mangle)]

@@ -1,5 +1,5 @@
 -- Where sections begin, as the code computes it.
-use Prim.Native.Nat.{ℕ, ◌+◌, ◌*◌, ◌≤◌}
+use Prim.Native.Nat.{ℕ, ◌+◌, ◌*◌}
 use mathlib.Core.Path.{◌≡◌}
 use native.Mathlib.Omega.{arith}
 use Rattle.base.specs.Lists.{sum}
@@ -29,11 +29,3 @@ own_place n q at all e f = rw (e, f) (omega arith)
 pub queue_place : (n q at : ℕ) → at ≡ offset n q the_own → at + slot_size * q ≡ offset n q the_queue
 unfolding offset sections sum
 queue_place n q at e = rw e (omega arith)
-
--- The code tests the number k of a section.
-pub section_found : (n q j k r : ℕ) → k ≡ j → r ≡ offset n q j → r ≡ offset n q k
-section_found n q j k r e f = rw e f
-
-pub section_last : (n q k r : ℕ) → the_noted ≤ k → k ≤ the_queue → (k ≡ the_noted → ⊥) → (k ≡ the_states → ⊥) → (k ≡ the_yellow → ⊥)
-    → (k ≡ the_own → ⊥) → r ≡ offset n q the_queue → r ≡ offset n q k
-section_last n q k r l h a b c d f = section_found n q the_queue k r (omega arith) f

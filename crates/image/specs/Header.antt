@@ -17,7 +17,6 @@ use Rattle.replication.specs.Machine.Types.{Mode, Non_prim, Reg_prim, Trans_prim
 use Rattle.replication.specs.Machine.Types.{Log, Configuration, Server}
 use Rattle.replication.specs.Machine.Colours.{shown}
 use Rattle.replication.specs.Machine.WellFormed.{queue}
-use Rattle.image.specs.declared.header.Membership.{Membership}
 use Rattle.image.specs.Layout.{at_layout, at_servers, at_quota, at_me, at_mode, at_configuration, at_configuration_id}
 use Rattle.image.specs.Layout.{at_configuration_set, at_transitional, at_transitional_set, at_states, at_cpcs, at_come, at_queue_length, at_green_count}
 use Rattle.image.specs.Layout.{at_numbered, at_own_count, at_sent, at_attempt, at_last, at_mark, at_yellow, at_yellow_count}
@@ -172,23 +171,4 @@ header_in b = record {
   mark = mark_in b at_mark;
   yellow_status = number_at 1 b at_yellow;
   yellow_count = number_at 2 b at_yellow_count;
-}
-
--- The first of them, as the code reads them: by themselves.
-unfoldable pub membership_in : List ℕ → Membership
-unfolding header_in
-membership_in b = record {
-  layout = (header_in b).layout;
-  servers = (header_in b).servers;
-  quota = (header_in b).quota;
-  me = (header_in b).me;
-  mode = (header_in b).mode;
-  configuration_status = (header_in b).configuration_status;
-  configuration_id = (header_in b).configuration_id;
-  configuration_set = (header_in b).configuration_set;
-  transitional_status = (header_in b).transitional_status;
-  transitional_set = (header_in b).transitional_set;
-  states = (header_in b).states;
-  cpcs = (header_in b).cpcs;
-  come = (header_in b).come;
 }

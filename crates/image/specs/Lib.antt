@@ -1,4 +1,5 @@
 pub mod Layout
+pub mod Sections
 pub mod Image
 pub mod Header
 pub mod Decode

@@ -4,7 +4,7 @@ ghost use Rattle.base.specs.Patched.{patched};
 ghost use Rattle.replication.specs.Machine.Types.{Server};
 ghost use Rattle.replication.specs.Machine.Requests.{waiting};
 ghost use Rattle.replication.specs.Machine.WellFormed.{well_formed};
-ghost use Rattle.image.specs.Header.{header_of, header_in, membership_in, membership_bytes, counts_bytes, header_written};
+ghost use Rattle.image.specs.Header.{header_of, header_in, membership_bytes, counts_bytes, header_written};
 ghost use Rattle.image.specs.Layout.{header_size, at_queue_length};
 
 use octets::blocks::copy;
@@ -13,29 +13,12 @@ use record::parts::{last_at, mark_at};
 use record::{AttemptIndex, State};
 use writer::parts::{put_mark, put_primary, put_yellow_head};
 
-// The first ones: layout, sizes, state and configurations.
-#[derive(Clone, Copy)]
-pub struct Membership {
-    pub layout: u8,
-    pub servers: u8,
-    pub quota: u16,
-    pub me: u8,
-    pub mode: u8,
-    pub configuration_status: u8,
-    pub configuration_id: u32,
-    pub configuration_set: u8,
-    pub transitional_status: u8,
-    pub transitional_set: u8,
-    pub states: u8,
-    pub cpcs: u8,
-    pub come: u32,
-}
-
-fn load_membership(state: &[u8]) -> Membership
+// The state's numbers at the front of its buffer.
+pub fn load(state: &[u8]) -> State
     requires { header_size ≤ length state.now }
-    ensures { result ≡ membership_in state.now }
+    ensures { result ≡ header_in state.now }
 {
-    Membership {
+    State {
         layout: num8(state, State::AT_LAYOUT),
         servers: num8(state, State::AT_SERVERS),
         quota: num16(state, State::AT_QUOTA),
@@ -49,29 +32,6 @@ fn load_membership(state: &[u8]) -> Membership
         states: num8(state, State::AT_STATES),
         cpcs: num8(state, State::AT_CPCS),
         come: num32(state, State::AT_COME),
-    }
-}
-
-// The state's numbers at the front of its buffer.
-pub fn load(state: &[u8]) -> State
-    requires { header_size ≤ length state.now }
-    ensures { result ≡ header_in state.now }
-{
-    let m = load_membership(state);
-    State {
-        layout: m.layout,
-        servers: m.servers,
-        quota: m.quota,
-        me: m.me,
-        mode: m.mode,
-        configuration_status: m.configuration_status,
-        configuration_id: m.configuration_id,
-        configuration_set: m.configuration_set,
-        transitional_status: m.transitional_status,
-        transitional_set: m.transitional_set,
-        states: m.states,
-        cpcs: m.cpcs,
-        come: m.come,
         queue_length: num32(state, State::AT_QUEUE_LENGTH),
         green_count: num32(state, State::AT_GREEN_COUNT),
         numbered: num16(state, State::AT_NUMBERED),
@@ -90,41 +50,37 @@ pub fn unsent(h: State) -> u16
     requires { h.sent ≤ h.numbered }
     ensures { (s : Server) → well_formed s ≡ true → h ≡ header_of s → result ≡ length (waiting s.log) }
 {
-    let behind = h.numbered - h.sent;
-    if h.own_count < behind {
-        return h.own_count;
-    }
-    behind
+    h.own_count.min(h.numbered - h.sent)
 }
 
 fn save_membership(state: &mut [u8], h: State)
     requires { header_size ≤ length state.old }
     ensures { state.new ≡ patched 0 (membership_bytes h) state.old }
 {
-    let quota = h.quota;
-    let id = h.configuration_id;
-    let come = h.come;
+    let quota = h.quota.to_be_bytes();
+    let id = h.configuration_id.to_be_bytes();
+    let come = h.come.to_be_bytes();
     let b: [u8; State::AT_QUEUE_LENGTH] = [
         h.layout,
         h.servers,
-        (quota / 256 % 256) as u8,
-        (quota % 256) as u8,
+        quota[0],
+        quota[1],
         h.me,
         h.mode,
         h.configuration_status,
-        (id / 16777216 % 256) as u8,
-        (id / 65536 % 256) as u8,
-        (id / 256 % 256) as u8,
-        (id % 256) as u8,
+        id[0],
+        id[1],
+        id[2],
+        id[3],
         h.configuration_set,
         h.transitional_status,
         h.transitional_set,
         h.states,
         h.cpcs,
-        (come / 16777216 % 256) as u8,
-        (come / 65536 % 256) as u8,
-        (come / 256 % 256) as u8,
-        (come % 256) as u8,
+        come[0],
+        come[1],
+        come[2],
+        come[3],
     ];
     copy(state, 0, &b);
 }
@@ -134,31 +90,31 @@ fn save_counts(state: &mut [u8], h: State)
     requires { header_size ≤ length state.old }
     ensures { state.new ≡ patched at_queue_length (counts_bytes h) state.old }
 {
-    let queue = h.queue_length;
-    let green = h.green_count;
-    let numbered = h.numbered;
-    let own = h.own_count;
-    let sent = h.sent;
-    let attempt = h.attempt.0;
+    let queue = h.queue_length.to_be_bytes();
+    let green = h.green_count.to_be_bytes();
+    let numbered = h.numbered.to_be_bytes();
+    let own = h.own_count.to_be_bytes();
+    let sent = h.sent.to_be_bytes();
+    let attempt = h.attempt.0.to_be_bytes();
     let b: [u8; State::AT_LAST - State::AT_QUEUE_LENGTH] = [
-        (queue / 16777216 % 256) as u8,
-        (queue / 65536 % 256) as u8,
-        (queue / 256 % 256) as u8,
-        (queue % 256) as u8,
-        (green / 16777216 % 256) as u8,
-        (green / 65536 % 256) as u8,
-        (green / 256 % 256) as u8,
-        (green % 256) as u8,
-        (numbered / 256 % 256) as u8,
-        (numbered % 256) as u8,
-        (own / 256 % 256) as u8,
-        (own % 256) as u8,
-        (sent / 256 % 256) as u8,
-        (sent % 256) as u8,
-        (attempt / 16777216 % 256) as u8,
-        (attempt / 65536 % 256) as u8,
-        (attempt / 256 % 256) as u8,
-        (attempt % 256) as u8,
+        queue[0],
+        queue[1],
+        queue[2],
+        queue[3],
+        green[0],
+        green[1],
+        green[2],
+        green[3],
+        numbered[0],
+        numbered[1],
+        own[0],
+        own[1],
+        sent[0],
+        sent[1],
+        attempt[0],
+        attempt[1],
+        attempt[2],
+        attempt[3],
     ];
     copy(state, State::AT_QUEUE_LENGTH, &b);
 }

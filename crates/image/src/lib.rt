@@ -3,16 +3,16 @@
 
 ghost use Rattle.std.specs.Prelude.{◌≡◌};
 ghost use Rattle.image.specs.Outcome.{lengths_of, started, start_on};
+ghost use Rattle.refusals.specs.Numbers.{outcome_number};
 
 pub mod header; // header.rt: the state's numbers in its buffer
 pub mod sizes; // sizes.rt: how long the buffers must be
 pub mod places; // places.rt: where the sections begin
 pub mod starting; // starting.rt: the start in its buffer
 
-use record::State;
 use record::range::sizes_ok;
-use refusals::{OUT_OF_RANGE, SHORT_BUFFER};
-use sizes::{out_length, state_length};
+use refusals::Refusal;
+use sizes::{Sizes, least_state_length};
 use starting::begin;
 
 // 0 and the required lengths of both buffers, or 2 where servers or quota is out of range.
@@ -29,36 +29,35 @@ pub fn lengths_of(servers: u32, quota: u32) -> Lengths
 {
     if !sizes_ok(servers, quota) {
         return Lengths {
-            number: OUT_OF_RANGE,
+            number: u32::from(Refusal::OutOfRange),
             state: 0,
             out: 0,
         };
     }
+    let sizes = Sizes { servers, quota };
     Lengths {
         number: 0,
-        state: state_length(servers, quota),
-        out: out_length(servers, quota),
+        state: sizes.state_length(),
+        out: sizes.out_length(),
     }
 }
 
-// Makes the start of server `me` in its buffer. 7 where the buffer is too short, 2 where a number is out of range: then it is
-// as before.
-pub fn start(state: &mut [u8], servers: u32, quota: u32, me: u32) -> u32
-    ensures { started result state.new ≡ start_on servers quota me state.old }
+// Makes the start of server `me` in its buffer, unless the buffer is too short, or a number is out of range: then it is as before.
+pub fn start(state: &mut [u8], servers: u32, quota: u32, me: u32) -> Result<(), Refusal>
+    ensures { started (outcome_number result) state.new ≡ start_on servers quota me state.old }
 {
     if !sizes_ok(servers, quota) {
-        let least = state_length(State::FEWEST_SERVERS as u32, State::LEAST_QUOTA as u32);
-        if state.len() < least as usize {
-            return SHORT_BUFFER;
+        if state.len() < least_state_length() as usize {
+            return Err(Refusal::ShortBuffer);
         }
-        return OUT_OF_RANGE;
+        return Err(Refusal::OutOfRange);
     }
-    if state.len() < state_length(servers, quota) as usize {
-        return SHORT_BUFFER;
+    if state.len() < (Sizes { servers, quota }).state_length() as usize {
+        return Err(Refusal::ShortBuffer);
     }
     if servers <= me {
-        return OUT_OF_RANGE;
+        return Err(Refusal::OutOfRange);
     }
     begin(state, servers as u8, quota as u16, me as u8);
-    0
+    Ok(())
 }

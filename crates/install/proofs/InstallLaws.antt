@@ -28,7 +28,6 @@ use Rattle.image.proofs.Fit.{well_formed_fits, image_section, image_rest}
 use Rattle.image.proofs.Again.{parts_again}
 use Rattle.image.specs.Holding.{Holds, HoldsSome}
 use Rattle.image.proofs.InPlace.{holds_section, such_decoded, holds_decoded, holds_some}
-use Rattle.updates.proofs.MembershipLaws.{Saved}
 use Rattle.install.specs.Swaps.{green_swaps}
 use Rattle.install.specs.Table.{log_in, yellows_in, Turned}
 use Rattle.install.proofs.SwapFits.{swaps_append}
@@ -81,15 +80,6 @@ votes_low b h w e =
     let v : Server = decoded b in
     let same : h.last.index.0 ≡ v.votes.last.index = ap (λ (x : State). x.last.index.0) (e ∙ header_loaded v b (such_decoded _ b w)) in
     omega (arith, (in_range v (such_decoded _ b w).formed).last.index)
-
-pub votes_installed : (h t : State) (b b₁ : List ℕ) → h ≡ header_in b
-    → ((s : Server) → h ≡ header_of s → t ≡ header_of (with_votes (install_votes s.votes) s))
-    → Saved t b b₁ → (s : Server) → Holds s b → b₁ ≡ image (with_votes (install_votes s.votes) s) b
-unfolding install_votes no_yellow
-votes_installed h t b b₁ e f g s r =
-    g s s.log (install_votes s.votes) s.membership r
-    (record { cuts = refl; queued = refl; own = begins_refl _; yellow = begins_append [] s.votes.yellow.ids; states = inl refl })
-    (f s (e ∙ header_loaded s b r))
 
 -- ---- both
 

@@ -15,7 +15,9 @@ use Rattle.base.proofs.ListLaws.{each_at, above_more}
 use Rattle.format.specs.Limits.{most_servers_limit}
 use Rattle.format.specs.Types.{Id, Action}
 use Rattle.format.specs.Read.{id_at, ids_at}
-use Rattle.record.specs.Values.{id_of}
+use Rattle.record.specs.Values.{id_of, the_id}
+use Rattle.record.specs.Events.{id_in as record_id}
+use Rattle.record.specs.declared.ActionId.{ActionId}
 use Rattle.replication.specs.Machine.Types.{Log, Server, with_log}
 use Rattle.replication.specs.Machine.Colours.{cut}
 use Rattle.replication.specs.Machine.Install.{ids_up_to}
@@ -29,7 +31,8 @@ use Rattle.image.specs.Decode.{decoded, servers_in}
 use Rattle.queue.proofs.RedLaws.{cut_read}
 use Rattle.image.specs.Holding.{HoldsSome}
 use Rattle.image.proofs.InPlace.{such_decoded}
-use Rattle.install.specs.Table.{log_in, yellows_in, ids_of, Indexed, Turned, id_in, NextFrom, TurnedAt}
+use Rattle.install.specs.Table.{log_in, yellows_in, ids_of, Indexed, Turned, id_in, NextAt, NextFrom, TurnedAt}
+use Rattle.std.specs.Prelude.{Some, None}
 use Rattle.install.proofs.SwapFits.{swaps_kept}
 use Rattle.install.proofs.NextLaws.{NoneOver, next_over, none_next, none_before, swaps_passed}
 use Rattle.install.proofs.TableLaws.{green_read}
@@ -52,10 +55,9 @@ ids_at_lem (suc m) e p (suc k) h =
     let f : p + id_size + id_size * k ≡ p + id_size * suc k = omega arith in
     ids_at_lem m e (p + id_size) k (omega arith) ∙ ap (λ (i : ℕ). some (id_at e i)) f
 
-pub turned_read : (b t₁ b₁ : List ℕ) (p x y : ℕ) → x ≡ number_at 1 b p → y ≡ number_at 2 b (p + 1) → Turned (id_of x y ∷ []) b t₁ b₁
-    → Turned (id_at b p ∷ []) b t₁ b₁
+pub turned_read : (b t₁ b₁ : List ℕ) (p : ℕ) (d : ActionId) → d ≡ record_id b p → Turned (the_id d ∷ []) b t₁ b₁ → Turned (id_at b p ∷ []) b t₁ b₁
 unfolding id_at id_of
-turned_read b t₁ b₁ p x y e f turn = turned_as (id_of x y ∷ []) (id_at b p ∷ []) b t₁ b₁ (λ i. id_of (e i) (f i) ∷ []) turn
+turned_read b t₁ b₁ p d e turn = turned_as (the_id d ∷ []) (id_at b p ∷ []) b t₁ b₁ (ap (λ (x : ActionId). the_id x ∷ []) e) turn
 
 pub yellow_start : (b t : List ℕ) → Indexed t b → Turned (take 0 (yellows_in b)) b t b
 yellow_start b t r = turned_none b t r
@@ -109,7 +111,7 @@ module _ (b₀ : List ℕ) (s₀ : HoldsSome b₀) where
 
 -- ---- one creator's next action
 
-module _ (t b : List ℕ) (x : Indexed t b) (c i k : ℕ) (next : NextFrom (green_count b) c i k b) where
+module _ (t b : List ℕ) (x : Indexed t b) (c i : ℕ) where
   -- Ids of no red action are passed over.
   passed : (m : ℕ) → i ≤ m → NoneOver c i m (drop (green_count b) (queue (log_in b))) → Turned (map (id_of c) (above i m)) b t b
   unfolding log_in above queue
@@ -121,23 +123,23 @@ module _ (t b : List ℕ) (x : Indexed t b) (c i k : ℕ) (next : NextFrom (gree
       let same = swaps_passed c i (m - i) l₀ (subst (λ (z : ℕ). NoneOver c i z l₀.red) whole (subst (NoneOver c i m) reds none)) in
       record { written = sym (ap (λ (z : Log). image (with_log z (decoded b)) b) same ∙ (such_decoded _ b x.holds).written); indexed = x }
 
-  pub turned_to_end : (cut n : ℕ) → n ≡ number_at 4 b at_queue_length → i < cut → n ≤ k → Turned (map (id_of c) (above i cut)) b t b
-  turned_to_end cut n e l h = passed cut (omega arith) (none_next b x.holds (green_count b) c i k next cut (omega arith))
+  pub turned_to_end : (cut : ℕ) → NextFrom (green_count b) c i None b → i < cut → Turned (map (id_of c) (above i cut)) b t b
+  turned_to_end cut next l = passed cut (omega arith) (none_next b x.holds (green_count b) c i cut next)
 
-  module _ (y : ℕ) (h : k < queue_count b) (index : y ≡ (id_in b k).index) where
+  module _ (k y : ℕ) (next : NextAt (queue_count b) (green_count b) c i k b) (index : y ≡ (id_in b k).index) where
     turned_short : (cut : ℕ) → i < cut → cut < y → Turned (map (id_of c) (above i cut)) b t b
-    turned_short cut l m = passed cut (omega arith) (none_before b x.holds (green_count b) c i k next cut h (omega arith))
+    turned_short cut l m = passed cut (omega arith) (none_before b x.holds (green_count b) c i cut k next (omega arith))
 
     over : i < y
-    over = next_over b (green_count b) c i k y index h next
+    over = next_over b (green_count b) c i k y index next
 
     turned_next : (t₁ b₁ : List ℕ) → Turned (id_in b k ∷ []) b t₁ b₁ → Turned (map (id_of c) (above i y)) b t₁ b₁
     unfolding after id_of
     turned_next t₁ b₁ turn =
         let before : List Id = map (id_of c) (above i (y - 1)) in
         let last : y - 1 + 1 ≡ y = omega (arith, over) in
-        let skipped = passed (y - 1) (omega (arith, over)) (none_before b x.holds (green_count b) c i k next (y - 1) h (omega (arith, over))) in
-        let named : id_in b k ≡ id_of c (y - 1 + 1) = λ j. id_of ((next.here h).0 j) ((sym index ∙ sym last) j) in
+        let skipped = passed (y - 1) (omega (arith, over)) (none_before b x.holds (green_count b) c i (y - 1) k next (omega (arith, over))) in
+        let named : id_in b k ≡ id_of c (y - 1 + 1) = λ j. id_of (next.creator j) ((sym index ∙ sym last) j) in
         let ids : before ++ (id_in b k ∷ []) ≡ map (id_of c) (above i y) =
         ap (λ (z : Id). before ++ (z ∷ [])) named
         ∙ sym (map-append (id_of c) (above i (y - 1)) (after (y - 1) 1))
@@ -146,12 +148,12 @@ module _ (t b : List ℕ) (x : Indexed t b) (c i k : ℕ) (next : NextFrom (gree
         let turned = turned_append before (id_in b k ∷ []) b t b t₁ b₁ x.holds skipped turn in
         turned_as (before ++ (id_in b k ∷ [])) (map (id_of c) (above i y)) b t₁ b₁ ids turned
 
-pub up_to_cut : (t b : List ℕ) → Indexed t b → (k cut y : ℕ) → k < queue_count b → y ≡ (id_in b k).index → cut < y → TurnedAt k cut cut b t b
-up_to_cut t b x k cut y h e m c i next l = (l, omega arith, turned_short t b x c i k next y h e cut l m)
+pub up_to_cut : (t b : List ℕ) → Indexed t b → (k cut y : ℕ) → y ≡ (id_in b k).index → cut < y → TurnedAt k cut None b t b
+up_to_cut t b x k cut y e m c i next l = turned_short t b x c i k y next e cut l m
 
-pub up_to_next : (t b t₁ b₁ : List ℕ) → Indexed t b → (k cut y : ℕ) → k < queue_count b → y ≡ (id_in b k).index → y ≤ cut → Turned (id_in b k ∷ []) b t₁ b₁
-    → TurnedAt k cut y b t₁ b₁
-up_to_next t b t₁ b₁ x k cut y h e m turn c i next l = (over t b x c i k next y h e, m, turned_next t b x c i k next y h e t₁ b₁ turn)
+pub up_to_next : (t b t₁ b₁ : List ℕ) → Indexed t b → (k cut y : ℕ) → y ≡ (id_in b k).index → y ≤ cut → Turned (id_in b k ∷ []) b t₁ b₁
+    → TurnedAt k cut (Some y) b t₁ b₁
+up_to_next t b t₁ b₁ x k cut y e m turn c i next l = (over t b x c i k y next e, m, turned_next t b x c i k y next e t₁ b₁ turn)
 
 -- ---- one creator
 
@@ -184,6 +186,12 @@ module _ (b₀ : List ℕ) (s₀ : HoldsSome b₀) (c : ℕ) where
   creator_end t b k i h e l m turn =
       let same : i ≡ cut (log_in b₀) c = omega (arith, creator_cut h) in
       turned_as (map (id_of c) (above 0 i)) (map (id_of c) (above 0 (cut (log_in b₀) c))) b₀ t b (ap (λ (z : ℕ). map (id_of c) (above 0 z)) same) turn
+
+  -- None is left.
+  pub creator_done : (t b t₁ b₁ : List ℕ) (k i : ℕ) → c < servers_in b₀ → k ≡ number_at 2 b₀ (header_size + 2 * c) → i < k
+      → Turned (map (id_of c) (above 0 i)) b₀ t b → Turned (map (id_of c) (above i k)) b t₁ b₁ → Turned (ids_of c b₀) b₀ t₁ b₁
+  creator_done t b t₁ b₁ k i h e l before turn =
+      creator_end t₁ b₁ k k h e (omega arith) (omega arith) (creator_again t b t₁ b₁ i k before l turn)
 
 -- ---- all creators
 

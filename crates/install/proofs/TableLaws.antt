@@ -19,7 +19,9 @@ use Rattle.format.specs.Types.{Id, Action}
 use Rattle.format.specs.Range.{same_id}
 use Rattle.format.specs.Read.{id_at, action_at}
 use Rattle.format.proofs.Ranges.{ActionRange}
-use Rattle.record.specs.Values.{id_of, slot}
+use Rattle.record.specs.Values.{id_of, the_id, slot}
+use Rattle.record.specs.Events.{id_in as record_id}
+use Rattle.record.specs.declared.ActionId.{ActionId}
 use Rattle.record.proofs.OnePass.{kept_set}
 use Rattle.replication.specs.Machine.Types.{Server, context_of}
 use Rattle.replication.specs.Machine.WellFormed.{queue, ids_in}
@@ -38,13 +40,13 @@ use Rattle.image.proofs.Counts.{numbers, such_counts}
 
 -- ---- the id of a place
 
-pub creator_read : (b : List ℕ) (k p x : ℕ) → p ≡ place the_queue b → x ≡ number_at 1 b (p + slot_size * k) → x ≡ (id_in b k).creator
-unfolding id_at
-creator_read b k p x e f = f ∙ (λ i. number_at 1 b (e i + slot_size * k))
+pub id_read : (b : List ℕ) (k p : ℕ) (d : ActionId) → p ≡ place the_queue b → d ≡ record_id b (p + slot_size * k) → the_id d ≡ id_in b k
+unfolding id_at id_of
+id_read b k p d e f = ap (λ (x : ActionId). the_id x) f ∙ ap (λ (q : ℕ). id_at b (q + slot_size * k)) e
 
-pub index_read : (b : List ℕ) (k p x : ℕ) → p ≡ place the_queue b → x ≡ number_at 2 b (p + slot_size * k + 1) → x ≡ (id_in b k).index
-unfolding id_at
-index_read b k p x e f = f ∙ (λ i. number_at 2 b (e i + slot_size * k + 1))
+pub index_read : (b : List ℕ) (k : ℕ) (d : ActionId) → the_id d ≡ id_in b k → d.index ≡ (id_in b k).index
+unfolding id_of
+index_read b k d e = ap (λ (x : Id). x.index) e
 
 -- ---- the place of an id in the table
 
@@ -69,16 +71,16 @@ module _ (s : Server) (b : List ℕ) (r : Holds s b) where
       let h : k < queue_count b = omega (arith, at_low (queue (shown_log s)) k a e, (numbers s b r).queue) in
       ap (λ (x : Action). x.id) (some_same (sym (read_at k h) ∙ e))
 
-pub entry_made : (b : List ℕ) (k x y r : ℕ) → x ≡ (id_in b k).creator → y ≡ (id_in b k).index → r ≡ slot (id_of x y) → r ≡ slot (id_in b k)
-unfolding id_of
-entry_made b k x y r f g m = m ∙ (λ i. slot (id_of (f i) (g i)))
+pub entry_made : (b : List ℕ) (k r : ℕ) (d : ActionId) → the_id d ≡ id_in b k → r ≡ slot (the_id d) → r ≡ slot (id_in b k)
+entry_made b k r d f m = m ∙ ap slot f
 
-pub entry_in : (b : List ℕ) (k x : ℕ) → HoldsSome b → k < queue_count b → x ≡ (id_in b k).creator → x < most_servers_limit
-entry_in b k x s h f =
+pub entry_in : (b : List ℕ) (k : ℕ) (d : ActionId) → HoldsSome b → k < queue_count b → the_id d ≡ id_in b k → d.creator < most_servers_limit
+unfolding id_of
+entry_in b k d s h f =
     let w : Server = decoded b in
     let a : Action = action_at b (place the_queue b + slot_size * k) in
     let there = read_at w b (such_decoded _ b s) k h in
-    let c : x ≡ a.id.creator = f ∙ ap (λ (j : Id). j.creator) (read_id w b (such_decoded _ b s) k a there) in
+    let c : d.creator ≡ a.id.creator = ap (λ (j : Id). j.creator) (f ∙ read_id w b (such_decoded _ b s) k a there) in
     omega (arith, creator_low w b (such_decoded _ b s) k a there)
 
 pub count_inside : (b : List ℕ) → HoldsSome b → at_queue_length + 4 ≤ length b

@@ -1,5 +1,6 @@
 -- The table of places: hints to where in the queue the action of an id stands.
-use Rattle.std.specs.Prelude.{ℕ, ◌+◌, ◌*◌, ◌≤◌, ◌<◌, ◌≡◌, List, map, length, get_or, drop}
+use Rattle.std.specs.Prelude.{ℕ, ◌+◌, ◌*◌, ◌≤◌, ◌<◌, ◌≡◌, List, map, length, get_or, drop, Option, Some, None, MatchOption}
+use Rattle.base.specs.Tests.{◌<?◌, pick}
 use Rattle.std.proofs.Math.Option.{some}
 use Rattle.base.specs.Lists.{above, at, Each}
 use Rattle.format.specs.Limits.{most_servers_limit, most_ids}
@@ -31,9 +32,13 @@ yellows_in b = (decoded b).votes.yellow.ids
 unfoldable pub ids_of : ℕ → List ℕ → List Id
 ids_of c b = map (id_of c) (above 0 (cut (log_in b) c))
 
--- The place in the queue, from `first` on, of the action with the id d: the number of actions where there is none.
-unfoldable pub place_from : (first : ℕ) → Id → List ℕ → ℕ
-place_from first d b = first + position d (drop first (queue (log_in b)))
+-- The place k, where it is one of n.
+unfoldable pub one_of_places : (n k : ℕ) → Option ℕ
+one_of_places n k = pick (k <? n) (Some k) None
+
+-- The place in the queue, from `first` on, of the action with the id d.
+unfoldable pub place_from : (first : ℕ) → Id → List ℕ → Option ℕ
+place_from first d b = one_of_places (queue_count b) (first + position d (drop first (queue (log_in b))))
 
 -- The id in the slot k of the queue.
 abbrev pub id_in : List ℕ → (k : ℕ) → Id
@@ -44,19 +49,24 @@ abbrev pub EachIndex : (end first c : ℕ) → List ℕ → (ℕ → Type 0) →
 EachIndex end first c b P =
     (j : ℕ) (a : Action) → first ≤ j → j < end → at (queue (log_in b)) j ≡ some a → a.id.creator ≡ c → P a.id.index
 
--- Of these actions the one with the least index over i stands at k; where there is none, k is not below the number of actions.
-pub record NextBefore (end first c i k : ℕ) (b : List ℕ) : Type 0 where
+-- Of these actions the one with the least index over i stands at k.
+pub record NextAt (end first c i k : ℕ) (b : List ℕ) : Type 0 where
   pub low : first ≤ k
-  pub none : queue_count b ≤ k → EachIndex end first c b (λ x. x ≤ i)
-  pub here : k < queue_count b → ((id_in b k).creator ≡ c) × (i < (id_in b k).index)
-  pub least : k < queue_count b → EachIndex end first c b (λ x. i < x → (id_in b k).index ≤ x)
+  pub high : k < queue_count b
+  pub creator : (id_in b k).creator ≡ c
+  pub over : i < (id_in b k).index
+  pub least : EachIndex end first c b (λ x. i < x → (id_in b k).index ≤ x)
+
+-- The place r of the one with the least index over i, or that none is over i.
+abbrev pub NextBefore : (end first c i : ℕ) → (r : Option ℕ) → List ℕ → Type 0
+NextBefore end first c i r b = MatchOption r (EachIndex end first c b (λ x. x ≤ i)) (λ k. NextAt end first c i k b)
 
 -- The same of all from `first` on.
-abbrev pub NextFrom : (first c i k : ℕ) → List ℕ → Type 0
-NextFrom first c i k b = NextBefore (queue_count b) first c i k b
+abbrev pub NextFrom : (first c i : ℕ) → (r : Option ℕ) → List ℕ → Type 0
+NextFrom first c i r b = NextBefore (queue_count b) first c i r b
 
--- Where it stands at p before the place k, it stands at r before the place after k.
-abbrev pub Nearer : (k c i p r : ℕ) → List ℕ → Type 0
+-- Where its place before the place k is p, its place before the place after k is r.
+abbrev pub Nearer : (k c i : ℕ) → (p r : Option ℕ) → List ℕ → Type 0
 Nearer k c i p r b = (first : ℕ) → first ≤ k → NextBefore k first c i p b → NextBefore (k + 1) first c i r b
 
 -- An id lies at `at`, and its creator has places in the table.
@@ -86,10 +96,11 @@ pub record Turned (ds : List Id) (b u c : List ℕ) : Type 0 where
   pub written : c ≡ image (with_log (green_swaps ds (decoded b).log) (decoded b)) b
   pub indexed : Indexed u c
 
--- The creator c's red actions with the indexes over i up to r turned green, and r is not over `cut`.
-abbrev pub TurnedTo : (c i cut r : ℕ) → (b u v : List ℕ) → Type 0
-TurnedTo c i cut r b u v = (i < r) × (r ≤ cut) × Turned (map (id_of c) (above i r)) b u v
+-- The creator c's red actions with the indexes over i up to r turned green, and r is not over `cut`; where r is none, it has none of them up to `cut`.
+abbrev pub TurnedTo : (c i cut : ℕ) → (r : Option ℕ) → (b u v : List ℕ) → Type 0
+TurnedTo c i cut r b u v =
+    MatchOption r (Turned (map (id_of c) (above i cut)) b u v) (λ y. (i < y) × (y ≤ cut) × Turned (map (id_of c) (above i y)) b u v)
 
 -- The same of each creator whose next red action over i stands at the place k.
-abbrev pub TurnedAt : (k cut r : ℕ) → (b u v : List ℕ) → Type 0
-TurnedAt k cut r b u v = (c i : ℕ) → NextFrom (green_count b) c i k b → i < cut → TurnedTo c i cut r b u v
+abbrev pub TurnedAt : (k cut : ℕ) → (r : Option ℕ) → (b u v : List ℕ) → Type 0
+TurnedAt k cut r b u v = (c i : ℕ) → NextAt (queue_count b) (green_count b) c i k b → i < cut → TurnedTo c i cut r b u v

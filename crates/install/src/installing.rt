@@ -9,9 +9,8 @@ ghost use Rattle.image.specs.Holding.{HoldsSome, Becomes};
 
 use crate::passes::{turn_rest, turn_yellow};
 use crate::table::table;
-use image::header::load;
 use record::{AttemptIndex, LastPrimary, PrimaryIndex, State};
-use updates::numbers::save_numbers;
+use updates::numbers::change;
 
 // "yellow list green in order, ids not held passed over" .. "all other reds green by creator, then index"
 pub fn install_log(state: &mut [u8])
@@ -23,44 +22,26 @@ pub fn install_log(state: &mut [u8])
     turn_rest(state, &mut places);
 }
 
-// "primary index + 1, its attempt the current one, its set the mark's"
-fn next_primary(h: State) -> LastPrimary
-    requires { h.last.index.0 ≤ most_index_limit }
-    ensures { (s : Server) → h ≡ header_of s → result ≡ last_of (install_votes s.votes).last }
-{
-    let last = h.last;
-    let mark = h.mark;
-    let attempt = h.attempt;
-    let index = last.index;
-    LastPrimary {
-        index: PrimaryIndex(index.0 + 1),
-        attempt,
-        set: mark.set,
-    }
-}
-
-fn with_votes(h: State) -> State
-    requires { h.last.index.0 ≤ most_index_limit }
-    ensures { (s : Server) → h ≡ header_of s → result ≡ header_of (with_votes (install_votes s.votes) s) }
-{
-    let last = next_primary(h);
-    let none = AttemptIndex(0);
-    let mut t = h;
-    t.last = last;
-    t.attempt = none;
-    t.yellow_status = 0;
-    t.yellow_count = 0;
-    t
-}
-
-// The votes' part: the new primary component, "attempt 0", "yellow empty and invalid".
+// The votes' part: the new primary component, "primary index + 1, its attempt the current one, its set the mark's", "attempt 0", "yellow empty and
+// invalid".
 pub fn install_votes(state: &mut [u8])
     requires { HoldsSome state.old }
     ensures { Becomes (λ s. with_votes (install_votes s.votes) s) state.old state.new }
 {
-    let h = load(state);
-    let t = with_votes(h);
-    save_numbers(state, t);
+    change(
+        state,
+        |h| State {
+            last: LastPrimary {
+                index: PrimaryIndex(h.last.index.0 + 1),
+                attempt: h.attempt,
+                set: h.mark.set,
+            },
+            attempt: AttemptIndex(0),
+            yellow_status: 0,
+            yellow_count: 0,
+            ..h
+        },
+    );
 }
 
 // Install.

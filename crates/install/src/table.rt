@@ -1,33 +1,34 @@
 // The table of places: at the place of an id, a hint to where in the queue its action stands, or 0 where no action of the queue has an id with
 // this place. A hint is tested, and where it is wrong the queue is searched.
-ghost use Rattle.std.specs.Prelude.{◌≡◌, [], ◌∷◌, ◌+◌, ◌≤◌, ◌<◌, set};
+ghost use Rattle.std.specs.Prelude.{◌≡◌, [], ◌∷◌, ◌+◌, ◌≤◌, ◌<◌, set, IfSome};
 ghost use Rattle.format.specs.Limits.{most_servers_limit, most_ids, most_number_limit};
-ghost use Rattle.record.specs.Values.{id_of, slot};
+ghost use Rattle.format.specs.Range.{same_id};
+ghost use Rattle.record.specs.Values.{the_id, slot};
 ghost use Rattle.image.specs.Holding.{HoldsSome};
 ghost use Rattle.install.specs.Table.{place_from, IndexedFrom, Indexed, Turned, id_in, NextFrom, Nearer};
 ghost use Rattle.image.specs.Counts.{queue_count, green_count, CountsIn};
 
 use crate::swapping::green_at;
-use image::places::{THE_QUEUE, place_of};
-use octets::numbers::{num8, num16, num32, wider};
+use image::places::{Section, place_of};
+use octets::numbers::num32;
 use queue::finding::find;
-use record::parts::is_id;
-use record::{ActionHead, State};
+use record::parts::id_at;
+use record::{ActionId, State};
 
-// The place of an id in the table.
-pub fn entry(creator: u8, index: u16) -> usize
-    requires { creator < most_servers_limit }
-    ensures { (result ≡ slot (id_of creator index)) × (result < most_ids) }
+// The place of an id in the table, which is one of the table's.
+fn entry(id: ActionId) -> usize
+    requires { id.creator < most_servers_limit }
+    ensures { (result ≡ slot (the_id id)) × (result < most_ids) }
 {
-    creator as usize * State::MOST_QUOTA as usize + index as usize % State::MOST_QUOTA as usize
+    id.slot()
 }
 
-// The creator of the action at the place k of the queue.
-fn creator_at(state: &[u8], k: usize) -> u8
+// The id of the action at the place k of the queue.
+fn queue_id(state: &[u8], k: usize) -> ActionId
     requires { CountsIn state.now × (k < queue_count state.now) }
-    ensures { result ≡ (id_in state.now k).creator }
+    ensures { the_id result ≡ id_in state.now k }
 {
-    num8(state, place_of(state, THE_QUEUE) + State::SLOT * k)
+    id_at(state, place_of(state, Section::Queue) + State::SLOT * k)
 }
 
 // Its index.
@@ -35,18 +36,15 @@ pub fn index_at(state: &[u8], k: usize) -> u16
     requires { CountsIn state.now × (k < queue_count state.now) }
     ensures { result ≡ (id_in state.now k).index }
 {
-    num16(
-        state,
-        place_of(state, THE_QUEUE) + State::SLOT * k + ActionHead::INDEX,
-    )
+    queue_id(state, k).index
 }
 
 // The place of its id in the table.
-pub fn entry_at(state: &[u8], k: usize) -> usize
+fn entry_at(state: &[u8], k: usize) -> usize
     requires { HoldsSome state.now × CountsIn state.now × (k < queue_count state.now) }
     ensures { (result ≡ slot (id_in state.now k)) × (result < most_ids) }
 {
-    entry(creator_at(state, k), index_at(state, k))
+    entry(queue_id(state, k))
 }
 
 // A hint to the place k of the queue, for the id whose place in the table is p: one more than k.
@@ -64,140 +62,149 @@ pub fn table(state: &[u8]) -> [u16; State::MOST_IDS]
 {
     let mut places: [u16; State::MOST_IDS] = [0; State::MOST_IDS];
     let count = num32(state, State::AT_QUEUE_LENGTH) as usize;
-    let mut k = 0;
-    while k < count {
+    for k in 0..count {
         hint(&mut places, entry_at(state, k), k);
-        k += 1;
     }
     places
 }
 
-// The place in the queue, from `first` on, of the action with this id, by a search: the number of actions where there is none.
-fn place_from(state: &[u8], first: usize, creator: u8, index: u16) -> usize
-    requires { HoldsSome state.now × CountsIn state.now × (first ≤ queue_count state.now) }
-    ensures { (result ≡ place_from first (id_of creator index) state.now) × (first ≤ result) }
-{
-    let at = place_of(state, THE_QUEUE) + State::SLOT * first;
-    let count = num32(state, State::AT_QUEUE_LENGTH) as usize - first;
-    first + find(state, at, count, creator, index)
+// Actions of a state's queue, from the place `first` on, looked up by the table.
+#[derive(Clone, Copy)]
+pub struct Lookup<'a> {
+    pub state: &'a [u8],
+    pub places: &'a [u16; State::MOST_IDS],
+    pub first: usize,
 }
 
-// The same, at once where the hint k names the action.
-fn place_by(state: &[u8], first: usize, k: usize, creator: u8, index: u16) -> usize
-    requires { HoldsSome state.now × CountsIn state.now × (first ≤ queue_count state.now) }
-    ensures { (result ≡ place_from first (id_of creator index) state.now) × (first ≤ result) }
-{
-    let count = num32(state, State::AT_QUEUE_LENGTH) as usize;
-    if count <= k {
-        return place_from(state, first, creator, index);
+impl Lookup<'_> {
+    // How many actions the queue has.
+    fn count(&self) -> usize
+        requires { IndexedFrom self.now.first self.now.places.now self.now.state.now }
+        ensures { result ≡ queue_count self.now.state.now }
+    {
+        num32(self.state, State::AT_QUEUE_LENGTH) as usize
     }
-    if !is_id(
+
+    // Whether the action at the place k has this id.
+    fn is_at(&self, k: usize, id: ActionId) -> bool
+        requires { IndexedFrom self.now.first self.now.places.now self.now.state.now × (k < queue_count self.now.state.now) }
+        ensures { result ≡ same_id (the_id id) (id_in self.now.state.now k) }
+    {
+        id.is_at(
+            self.state,
+            place_of(self.state, Section::Queue) + State::SLOT * k,
+        )
+    }
+
+    // The place of the action with this id, by a search.
+    fn searched(&self, id: ActionId) -> Option<usize>
+        requires { IndexedFrom self.now.first self.now.places.now self.now.state.now }
+        ensures { result ≡ place_from self.now.first (the_id id) self.now.state.now }
+    {
+        let at = place_of(self.state, Section::Queue) + State::SLOT * self.first;
+        let k = find(self.state, at, self.count() - self.first, id)?;
+        Some(self.first + k)
+    }
+
+    // The same, at once where the hint k names the action.
+    fn find_by(&self, k: usize, id: ActionId) -> Option<usize>
+        requires { IndexedFrom self.now.first self.now.places.now self.now.state.now }
+        ensures { result ≡ place_from self.now.first (the_id id) self.now.state.now }
+    {
+        if !(k < self.count() && self.is_at(k, id)) {
+            return self.searched(id);
+        }
+        if k < self.first {
+            return None;
+        }
+        Some(k)
+    }
+
+    // The same by the table.
+    pub fn find(&self, id: ActionId) -> Option<usize>
+        requires { IndexedFrom self.now.first self.now.places.now self.now.state.now × (id.creator < most_servers_limit) }
+        ensures { result ≡ place_from self.now.first (the_id id) self.now.state.now }
+    {
+        let hint = self.places[entry(id)] as usize;
+        if hint == 0 {
+            return None;
+        }
+        self.find_by(hint - 1, id)
+    }
+
+    // Of the place `found`, which is the next one's before k, and k: the next one's before k + 1.
+    fn nearer(&self, found: Option<usize>, k: usize, creator: u8, above: u16) -> Option<usize>
+        requires indexed { IndexedFrom self.now.first self.now.places.now self.now.state.now }
+        requires found { IfSome found (λ p. p < queue_count self.now.state.now) }
+        requires inside { k < queue_count self.now.state.now }
+        ensures { Nearer k creator above found result self.now.state.now }
+    {
+        let id = queue_id(self.state, k);
+        if id.creator != creator || id.index <= above {
+            return found;
+        }
+        match found {
+            Some(p) if index_at(self.state, p) <= id.index => found,
+            _ => Some(k),
+        }
+    }
+
+    // The place of this creator's action with the least index over `above`, by a pass.
+    fn next_passed(&self, creator: u8, above: u16) -> Option<usize>
+        requires { IndexedFrom self.now.first self.now.places.now self.now.state.now }
+        ensures { NextFrom self.now.first creator above result self.now.state.now }
+    {
+        let mut found = None;
+        for k in self.first..self.count() {
+            found = self.nearer(found, k, creator, above);
+        }
+        found
+    }
+
+    // The same, at once where the hint, one more than a place, names the action with the next index.
+    fn next_hinted(&self, hint: usize, creator: u8, above: u16) -> Option<usize>
+        requires { IndexedFrom self.now.first self.now.places.now self.now.state.now × (above < most_number_limit) }
+        ensures { NextFrom self.now.first creator above result self.now.state.now }
+    {
+        let id = ActionId {
+            creator,
+            index: above + 1,
+        };
+        if self.first < hint && hint <= self.count() && self.is_at(hint - 1, id) {
+            return Some(hint - 1);
+        }
+        self.next_passed(creator, above)
+    }
+
+    // The same by the table. Past the highest index there is none to look up.
+    pub fn next(&self, creator: u8, above: u16) -> Option<usize>
+        requires { IndexedFrom self.now.first self.now.places.now self.now.state.now × (creator < most_servers_limit) }
+        ensures { NextFrom self.now.first creator above result self.now.state.now }
+    {
+        if above == State::MOST_NUMBER {
+            return self.next_passed(creator, above);
+        }
+        let id = ActionId {
+            creator,
+            index: above + 1,
+        };
+        let hint = self.places[entry(id)] as usize;
+        self.next_hinted(hint, creator, above)
+    }
+}
+
+// The red actions, looked up by the table.
+pub fn reds<'a>(state: &'a [u8], places: &'a [u16; State::MOST_IDS]) -> Lookup<'a>
+    requires { Indexed places.now state.now }
+    ensures indexed { IndexedFrom result.first result.places.now result.state.now }
+    ensures state { result.state.now ≡ state.now }
+    ensures first { result.first ≡ green_count state.now }
+{
+    Lookup {
         state,
-        place_of(state, THE_QUEUE) + State::SLOT * k,
-        creator,
-        index,
-    ) {
-        return place_from(state, first, creator, index);
+        places,
+        first: num32(state, State::AT_GREEN_COUNT) as usize,
     }
-    if k < first {
-        return count;
-    }
-    k
-}
-
-// The same by the table.
-pub fn place_in(
-    state: &[u8],
-    places: &[u16; State::MOST_IDS],
-    first: usize,
-    creator: u8,
-    index: u16,
-) -> usize
-    requires { IndexedFrom first places.now state.now × (creator < most_servers_limit) }
-    ensures { (result ≡ place_from first (id_of creator index) state.now) × (first ≤ result) }
-{
-    let k = wider(places[entry(creator, index)]) as usize;
-    if k < 1 {
-        return num32(state, State::AT_QUEUE_LENGTH) as usize;
-    }
-    place_by(state, first, k - 1, creator, index)
-}
-
-// Of the place `found`, which is the next one's before k, and k: the next one's before k + 1.
-fn nearer(state: &[u8], found: usize, k: usize, creator: u8, above: u16) -> usize
-    requires { HoldsSome state.now × CountsIn state.now × (k < queue_count state.now) }
-    ensures { Nearer k creator above found result state.now }
-{
-    if creator_at(state, k) != creator {
-        return found;
-    }
-    let index = index_at(state, k);
-    if index <= above {
-        return found;
-    }
-    if num32(state, State::AT_QUEUE_LENGTH) as usize <= found {
-        return k;
-    }
-    if index_at(state, found) <= index {
-        return found;
-    }
-    k
-}
-
-// The place in the queue, from `first` on, of this creator's action with the least index over `above`, by a pass: the number of actions where
-// there is none.
-fn next_from(state: &[u8], first: usize, creator: u8, above: u16) -> usize
-    requires { HoldsSome state.now × CountsIn state.now × (first ≤ queue_count state.now) }
-    ensures { NextFrom first creator above result state.now }
-{
-    let count = num32(state, State::AT_QUEUE_LENGTH) as usize;
-    let mut found = count;
-    let mut k = first;
-    while k < count {
-        found = nearer(state, found, k, creator, above);
-        k += 1;
-    }
-    found
-}
-
-// The same, at once where the hint, one more than a place, names the action with the next index.
-fn next_hinted(state: &[u8], first: usize, hint: usize, creator: u8, above: u16) -> usize
-    requires { HoldsSome state.now × CountsIn state.now × (first ≤ queue_count state.now) × (above < most_number_limit) }
-    ensures { NextFrom first creator above result state.now }
-{
-    if hint <= first {
-        return next_from(state, first, creator, above);
-    }
-    if (num32(state, State::AT_QUEUE_LENGTH) as usize) < hint {
-        return next_from(state, first, creator, above);
-    }
-    if !is_id(
-        state,
-        place_of(state, THE_QUEUE) + State::SLOT * (hint - 1),
-        creator,
-        above + 1,
-    ) {
-        return next_from(state, first, creator, above);
-    }
-    hint - 1
-}
-
-// The same by the table. Past the highest index there is none to look up.
-pub fn next_by(
-    state: &[u8],
-    places: &[u16; State::MOST_IDS],
-    first: usize,
-    creator: u8,
-    above: u16,
-) -> usize
-    requires { IndexedFrom first places.now state.now × (creator < most_servers_limit) }
-    ensures { NextFrom first creator above result state.now }
-{
-    if above == State::MOST_NUMBER {
-        return next_from(state, first, creator, above);
-    }
-    let hint = wider(places[entry(creator, above + 1)]) as usize;
-    next_hinted(state, first, hint, creator, above)
 }
 
 // The red action at the place k of the queue turns green: the lowest red one takes its place.
@@ -214,14 +221,11 @@ pub fn turn_at_place(state: &mut [u8], places: &mut [u16; State::MOST_IDS], k: u
 }
 
 // The action with this id turns green if it is red.
-pub fn turn_green(state: &mut [u8], places: &mut [u16; State::MOST_IDS], creator: u8, index: u16)
-    requires { Indexed places.old state.old × (creator < most_servers_limit) }
-    ensures { Turned (id_of creator index ∷ []) state.old places.new state.new }
+pub fn turn_green(state: &mut [u8], places: &mut [u16; State::MOST_IDS], id: ActionId)
+    requires { Indexed places.old state.old × (id.creator < most_servers_limit) }
+    ensures { Turned (the_id id ∷ []) state.old places.new state.new }
 {
-    let green = num32(state, State::AT_GREEN_COUNT) as usize;
-    let k = place_in(state, places, green, creator, index);
-    if num32(state, State::AT_QUEUE_LENGTH) as usize <= k {
-        return;
+    if let Some(k) = reds(state, places).find(id) {
+        turn_at_place(state, places, k);
     }
-    turn_at_place(state, places, k);
 }

@@ -1,3 +1,2 @@
-pub mod NumberLaws
-pub mod Zeros
+pub mod Cuts
 pub mod CountedLaws

@@ -11,11 +11,7 @@ pub fn copy(out: &mut [u8], at: usize, src: &[u8])
     requires { at + length src.now ≤ length out.old }
     ensures { out.new ≡ patched at src.now out.old }
 {
-    let mut j: usize = 0;
-    while j < src.len() {
-        out[at + j] = src[j];
-        j += 1;
-    }
+    out[at..at + src.len()].copy_from_slice(src);
 }
 
 // How many bytes `src` has, in one byte, and these.
@@ -32,11 +28,8 @@ pub fn copy_up(out: &mut [u8], from: usize, to: usize, count: usize)
     requires { (from + count ≤ to) × (to + count ≤ length out.old) }
     ensures { out.new ≡ patched to (part_at count out.old from) out.old }
 {
-    let mut j: usize = 0;
-    while j < count {
-        out[to + j] = out[from + j];
-        j += 1;
-    }
+    let (front, back) = out.split_at_mut(to);
+    back[..count].copy_from_slice(&front[from..from + count]);
 }
 
 // Zeros for `count` bytes from `at` on.
@@ -44,9 +37,5 @@ pub fn clear(out: &mut [u8], at: usize, count: usize)
     requires { at + count ≤ length out.old }
     ensures { out.new ≡ patched at (replicate {A = ℕ} count 0) out.old }
 {
-    let mut j: usize = 0;
-    while j < count {
-        out[at + j] = 0;
-        j += 1;
-    }
+    out[at..at + count].fill(0);
 }

@@ -7,11 +7,8 @@ pub fn shift_down(s: &mut [u8], w: usize)
     requires { w ≤ length s.old }
     ensures { s.new ≡ patched 0 (drop w s.old) s.old }
 {
-    let n = s.len() - w;
-    let mut i: usize = 0;
-    while i < n {
+    for i in 0..s.len() - w {
         s[i] = s[w + i];
-        i += 1;
     }
 }
 
@@ -20,9 +17,7 @@ pub fn shift_up(s: &mut [u8], w: usize)
     requires { w ≤ length s.old }
     ensures { s.new ≡ take w s.old ++ take (length s.old - w) s.old }
 {
-    let mut i: usize = s.len() - w;
-    while 0 < i {
-        i -= 1;
+    for i in (0..s.len() - w).rev() {
         s[w + i] = s[i];
     }
 }

@@ -20,9 +20,9 @@ module _ (low high z : ℤ) (f : SFits w32 low) (g : SFits w32 high) (h : SFits 
   unfolding between
   between_on e = and_yes (le_z (bits_of z) (bits_of high)) (le_z low z) (le_z z high) (sym (bits_test low z f h) ∙ e) (bits_test z high h g)
 
-  pub between_off : le_z (bits_of low) (bits_of z) ≡ false → false ≡ between low high z
+  pub between_off : le_z (bits_of low) (bits_of z) ≡ false → le_z (bits_of low) (bits_of z) ≡ between low high z
   unfolding between
-  between_off e = and_no (le_z low z) (le_z z high) (sym (bits_test low z f h) ∙ e)
+  between_off e = e ∙ and_no (le_z low z) (le_z z high) (sym (bits_test low z f h) ∙ e)
 
 bits_between : (low high z : ℤ) → SFits w32 low → SFits w32 high → SFits w32 z → between (bits_of low) (bits_of high) (bits_of z) ≡ between low high z
 unfolding between
@@ -35,9 +35,9 @@ module _ (s : Rectangle) (p : Point) (t : Bool) (f : SFits w32 s.west) (g : SFit
   unfolding in_rectangle
   inside_on u i j k d y = and_yes u _ _ (sym (e ∙ bits_between _ _ _ f g h) ∙ y) (d ∙ bits_between _ _ _ i j k)
 
-  pub inside_off : t ≡ false → false ≡ in_rectangle s p
+  pub inside_off : t ≡ false → t ≡ in_rectangle s p
   unfolding in_rectangle
-  inside_off n = and_no _ _ (sym (e ∙ bits_between _ _ _ f g h) ∙ n)
+  inside_off n = n ∙ and_no _ _ (sym (e ∙ bits_between _ _ _ f g h) ∙ n)
 
 module _ (s : Rectangle) (f : SFits w32 s.west) (g : SFits w32 s.east) where
   pub rise_on : SFits w32 s.south → SFits w32 s.north → le_z (bits_of s.west) (bits_of s.east) ≡ true
@@ -45,9 +45,9 @@ module _ (s : Rectangle) (f : SFits w32 s.west) (g : SFits w32 s.east) where
   unfolding sides_rise
   rise_on h k e = and_yes _ _ _ (sym (bits_test s.west s.east f g) ∙ e) (bits_test s.south s.north h k)
 
-  pub rise_off : le_z (bits_of s.west) (bits_of s.east) ≡ false → false ≡ sides_rise s
+  pub rise_off : le_z (bits_of s.west) (bits_of s.east) ≡ false → le_z (bits_of s.west) (bits_of s.east) ≡ sides_rise s
   unfolding sides_rise
-  rise_off e = and_no _ _ (sym (bits_test s.west s.east f g) ∙ e)
+  rise_off e = e ∙ and_no _ _ (sym (bits_test s.west s.east f g) ∙ e)
 
 -- ---- by the region
 

@@ -6,8 +6,6 @@ ghost use Rattle.plane.specs.Plane.{between as between_of, in_rectangle, sides_r
 
 pub mod distances; // distances.rt: squared distances
 
-use distances::within;
-
 // In millimetres.
 #[derive(Clone, Copy)]
 pub struct Point {
@@ -33,37 +31,32 @@ pub enum Region {
 fn between(low: i32, high: i32, z: i32) -> bool
     ensures { result ≡ between_of low high z }
 {
-    if low <= z {
-        return z <= high;
-    }
-    false
+    low <= z && z <= high
 }
 
-// Edges included.
-fn in_rectangle(sides: Rectangle, p: Point) -> bool
-    ensures { result ≡ in_rectangle sides p }
-{
-    if between(sides.west, sides.east, p.easting) {
-        return between(sides.south, sides.north, p.northing);
+impl Rectangle {
+    // Edges included.
+    fn contains(self, p: Point) -> bool
+        ensures { result ≡ in_rectangle self p }
+    {
+        between(self.west, self.east, p.easting) && between(self.south, self.north, p.northing)
     }
-    false
+
+    // Neither low side exceeds its high side.
+    pub fn sides_rise(self) -> bool
+        ensures { result ≡ sides_rise self }
+    {
+        self.west <= self.east && self.south <= self.north
+    }
 }
 
-// Neither low side exceeds its high side.
-pub fn sides_rise(sides: Rectangle) -> bool
-    ensures { result ≡ sides_rise sides }
-{
-    if sides.west <= sides.east {
-        return sides.south <= sides.north;
-    }
-    false
-}
-
-pub fn in_region(region: Region, p: Point) -> bool
-    ensures { result ≡ in_region region p }
-{
-    match region {
-        Region::Inside(sides) => in_rectangle(sides, p),
-        Region::Within { centre, radius } => within(centre, p, radius),
+impl Region {
+    pub fn contains(self, p: Point) -> bool
+        ensures { result ≡ in_region self p }
+    {
+        match self {
+            Region::Inside(sides) => sides.contains(p),
+            Region::Within { centre, radius } => centre.is_within(radius, p),
+        }
     }
 }

@@ -6,7 +6,10 @@ use native.Mathlib.Omega.{arith}
 use lib.ListN.{length}
 use Rattle.base.specs.Bytes.{number_at}
 use Rattle.base.specs.Tests.{pick}
-use Rattle.base.proofs.TestLaws.{eq_yes, eq_no}
+use lib.Dec.{eqb}
+use mir.Val.{bool_byte}
+use Rattle.base.proofs.Branches.{told_eq}
+use Rattle.base.proofs.TestLaws.{eq_yes, eq_no, eq_holds, eq_fails, Known, holds, fails, known}
 use Rattle.format.specs.Read.{id_at, action_at}
 use Rattle.format.specs.Limits.{most_ids}
 use Rattle.replication.specs.Machine.Colours.{of_creator, places_of, unwhite}
@@ -21,13 +24,20 @@ use Rattle.queue.proofs.ReadLaws.{queue_read}
 
 -- ---- one slot
 
-pub one_yes : (b : List ℕ) (at c v : ℕ) → v ≡ number_at 1 b at → v ≡ c → 1 ≡ of_creator c (action_at b at ∷ [])
+one_yes : (b : List ℕ) (at c v : ℕ) → v ≡ number_at 1 b at → v ≡ c → 1 ≡ of_creator c (action_at b at ∷ [])
 unfolding of_creator action_at id_at pick
 one_yes b at c v e f = ap (λ t. pick t 1 0) (sym (eq_yes _ _ (sym e ∙ f)))
 
-pub one_no : (b : List ℕ) (at c v : ℕ) → v ≡ number_at 1 b at → (v ≡ c → ⊥) → 0 ≡ of_creator c (action_at b at ∷ [])
+one_no : (b : List ℕ) (at c v : ℕ) → v ≡ number_at 1 b at → (v ≡ c → ⊥) → 0 ≡ of_creator c (action_at b at ∷ [])
 unfolding of_creator action_at id_at pick
 one_no b at c v e f = ap (λ t. pick t 1 0) (sym (eq_no _ _ (λ g. f (e ∙ g))))
+
+pub one_told : (b : List ℕ) (at c v r : ℕ) → v ≡ number_at 1 b at → r ≡ bool_byte (eqb v c) → (r ≡ of_creator c (action_at b at ∷ [])) × (r ≤ 1)
+one_told b at c v r e f = go (known (eqb v c))
+  where
+    go : Known (eqb v c) → (r ≡ of_creator c (action_at b at ∷ [])) × (r ≤ 1)
+    go (holds h) = let one : r ≡ 1 = f ∙ ap bool_byte h in (one ∙ one_yes b at c v e (eq_holds v c (sym (told_eq v c) ∙ h)), omega (arith, one))
+    go (fails h) = let none : r ≡ 0 = f ∙ ap bool_byte h in (none ∙ one_no b at c v e (eq_fails v c (sym (told_eq v c) ∙ h)), omega (arith, none))
 
 -- ---- all of them
 

@@ -185,7 +185,7 @@ module _ (h : ActionHead) (p b : List ℕ) where
       f ∙ entered_other s (action_of h p) b r d next
       (others_stay s.me (action_of h p) (shown_log s) (log_fits s r.formed).shows.own_list (λ g. n (g ∙ sym (numbers s b r).me ∙ sym e)))
 
-  pub enter_none : (own : ℕ) (c : List ℕ) → own ≡ number_at 2 b at_own_count → own ≡ 0 → c ≡ queued (action_of h p) b
+  pub enter_none : (own : ℕ) (c : List ℕ) → own ≡ number_at 2 b at_own_count → own ≤ 0 → c ≡ queued (action_of h p) b
       → (s : Server) → Holds s b → Placed s (action_of h p) → is_next s.log (action_of h p) ≡ true → c ≡ image (with_log (enter (action_of h p) s.log) s) b
   enter_none own c e n f s r d next = f ∙ go s.log.own refl
     where
@@ -193,14 +193,14 @@ module _ (h : ActionHead) (p b : List ℕ) where
       go [] g = entered_other s (action_of h p) b r d next (ap (remove (action_of h p).id) g ∙ nothing_leaves (action_of h p).id ∙ sym g)
       go (x ∷ rest) g = absurd (omega (arith, (numbers s b r).own, ap length g))
 
-  pub enter_own : (me own at : ℕ) (c₁ c₂ : List ℕ) → me ≡ number_at 1 b at_me → own ≡ number_at 2 b at_own_count → at ≡ place the_own b → (h.creator ≡ me) → (own ≡ 0 → ⊥)
+  pub enter_own : (me own at : ℕ) (c₁ c₂ : List ℕ) → me ≡ number_at 1 b at_me → own ≡ number_at 2 b at_own_count → at ≡ place the_own b → (h.creator ≡ me) → 0 < own
       → c₁ ≡ queued (action_of h p) b → c₂ ≡ popped at own c₁
       → (s : Server) → Holds s b → Placed s (action_of h p) → is_next s.log (action_of h p) ≡ true → c₂ ≡ image (with_log (enter (action_of h p) s.log) s) b
   unfolding action_of id_of
   enter_own me own at c₁ c₂ e o k m n f g s r d next = go s.log.own refl
     where
       go : (l : List Action) → s.log.own ≡ l → c₂ ≡ image (with_log (enter (action_of h p) s.log) s) b
-      go [] q = absurd (n (o ∙ (numbers s b r).own ∙ ap length q))
+      go [] q = absurd (omega (arith, o, (numbers s b r).own, ap length q))
       go (x ∷ rest) q =
           let i = numbers s b r in
           let first : x.id ≡ (action_of h p).id = first_own s (action_of h p) b r d next x rest q (m ∙ e ∙ i.me) in

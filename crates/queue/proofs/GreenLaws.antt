@@ -28,7 +28,8 @@ use Rattle.image.specs.Holding.{Blank, Holds, HoldsSuch}
 use Rattle.replication.proofs.Step.Greens.{red_green}
 use Rattle.image.proofs.InPlace.{image_holds}
 use Rattle.record.specs.declared.ActionHead.{ActionHead}
-use Rattle.record.specs.Values.{id_of, action_of}
+use Rattle.record.specs.declared.ActionId.{ActionId}
+use Rattle.record.specs.Values.{id_of, the_id, id_in_head, action_of}
 use Rattle.queue.specs.Queue.{position, Placed, RoomIfNext}
 use Rattle.queue.proofs.Positions.{position_found, position_none}
 use Rattle.queue.proofs.Holding.{log_formed, log_fits}
@@ -118,16 +119,16 @@ module _ (h : ActionHead) (p b : List ℕ) where
       (red_holds r.state (action_of h p) b c r.holds r.fact (f r.state r.holds r.fact))
 
   pub green_made : (c e : List ℕ) → ((s : Server) → Holds s b → Placed s (action_of h p) → c ≡ image (with_log (red (action_of h p) s.log) s) b)
-      → ((t : Server) → Holds t c → e ≡ image (with_log (green_id (id_of h.creator h.index) t.log) t) c)
+      → (d : ActionId) → d ≡ id_in_head h → ((t : Server) → Holds t c → e ≡ image (with_log (green_id (the_id d) t.log) t) c)
       → (s : Server) → Holds s b → Placed s (action_of h p) → e ≡ image (with_log (green (action_of h p) s.log) s) b
   unfolding green action_of
-  green_made c e f g s r d =
+  green_made c e f i j g s r d =
       let a : Action = action_of h p in
       let l : Log = red a s.log in
       let t : Server = with_log l s in
       let held : Holds t c = red_holds s a b c r d (f s r d) in
       let ok₂ : well_formed (with_log (green_id a.id l) s) ≡ true =
       log_formed t (green_id a.id l) held.formed (green_id_fits s.servers s.quota s.me s.white a.id l (log_fits t held.formed)) in
-      g t held
+      subst (λ (x : ActionId). (t : Server) → Holds t c → e ≡ image (with_log (green_id (the_id x) t.log) t) c) j g t held
       ∙ ap (image (with_log (green_id a.id l) s)) (f s r d)
       ∙ green_over s a.id l b held.formed ok₂ r.long

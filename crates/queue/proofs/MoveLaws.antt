@@ -5,6 +5,7 @@ use mathlib.Core.List.{List, ◌++◌}
 use native.Mathlib.Omega.{arith}
 use lib.ListN.{length, take, drop, length-drop, replicate}
 use lib.Seq.{drop_at, length-take-le, take_all}
+use Rattle.std.specs.List.{slice_range}
 use Rattle.base.specs.Bytes.{part_at, zeros, slot}
 use Rattle.base.specs.Patched.{patched}
 use Rattle.base.proofs.PatchedLaws.{patched_next}
@@ -44,3 +45,7 @@ slot_put_lem h p s s₁ s₂ at l r e f =
     f ∙ ap₂ {A = ℕ} {B = ℕ} {C = List ℕ} (λ k m. patched (at + k) (zeros m) s₁) (sym size) left
     ∙ ap (patched (at + length y) (zeros (slot_size - length y))) e
     ∙ patched_next at y (zeros (slot_size - length y)) s (omega arith)
+
+pub slot_read : (s : List ℕ) (at : ℕ) (x : List ℕ) → x ≡ slice_range s at (at + slot_size) → x ≡ part_at slot_size s at
+unfolding part_at
+slot_read s at x e = let size : at + slot_size - at ≡ slot_size = omega arith in e ∙ ap (λ (m : ℕ). take m (drop at s)) size

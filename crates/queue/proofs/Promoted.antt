@@ -29,14 +29,17 @@ use Rattle.image.proofs.Slots.{actions_count}
 use Rattle.image.proofs.Decoded.{image_part}
 use Rattle.image.specs.Holding.{Holds}
 use Rattle.image.proofs.InPlace.{holds_decoded}
-use Rattle.queue.specs.Queue.{position, reds_in, promoted}
+use Rattle.std.specs.Prelude as code
+use Rattle.std.specs.Prelude.{Some, None}
+use Rattle.queue.specs.Queue.{position, first_with, reds_in, promoted, SlotIn}
+use Rattle.queue.proofs.FindLaws.{some_found, none_found}
 use Rattle.base.proofs.Over.{over_changed, used_part}
 use Rattle.queue.proofs.Inside.{changed_at}
 use Rattle.image.proofs.Fields.{opened_header}
 use Rattle.queue.proofs.SlotLaws.{slots_one, slots_cons}
 use Rattle.queue.proofs.Positions.{Stands, position_found, position_none, actions_drop}
 use Rattle.queue.proofs.Holding.{holds_changed, log_image}
-use Rattle.image.specs.Counts.{place}
+use Rattle.image.specs.Counts.{place, CountsIn}
 use Rattle.image.proofs.Counts.{numbers, holds_counts, holds_place}
 
 -- ---- lists
@@ -194,10 +197,10 @@ module _ (s : Server) (b : List ℕ) (r : Holds s b) (d : Id) (k : ℕ) (k-th : 
 
 -- ---- as the code makes it
 
-pub reds_made : (b : List ℕ) (d : Id) (count green at k : ℕ) → count ≡ number_at 4 b at_queue_length - number_at 4 b at_green_count → green ≡ number_at 4 b at_green_count → at ≡ place the_queue b
-    → k ≡ position d (actions_at count b (at + slot_size * green)) → k ≡ position d (reds_in b)
+pub reds_made : (b : List ℕ) (d : Id) (count green at : ℕ) (k : code.Option ℕ) → count ≡ number_at 4 b at_queue_length - number_at 4 b at_green_count → green ≡ number_at 4 b at_green_count → at ≡ place the_queue b
+    → k ≡ first_with d (actions_at count b (at + slot_size * green)) → k ≡ first_with d (reds_in b)
 unfolding reds_in
-reds_made b d count green at k e f g j = j ∙ (λ i. position d (actions_at (e i) b (g i + slot_size * f i)))
+reds_made b d count green at k e f g j = j ∙ (λ i. first_with d (actions_at (e i) b (g i + slot_size * f i)))
 
 -- The red actions, as they are read from the buffer.
 pub reds_read : (s : Server) (b : List ℕ) → Holds s b → reds_in b ≡ s.log.red
@@ -205,33 +208,37 @@ unfolding reds_in decoded decoded_as place
 reds_read s b r =
     sym (actions_drop (number_at 4 b at_green_count) (number_at 4 b at_queue_length) b (place the_queue b) (holds_counts s b r).green) ∙ ap (λ (t : Server). t.log.red) (holds_decoded s b r)
 
-reds_counted : (s : Server) (b : List ℕ) → Holds s b → length s.log.red ≡ number_at 4 b at_queue_length - number_at 4 b at_green_count
-unfolding reds_in
-reds_counted s b r = ap length (sym (reds_read s b r)) ∙ actions_count (number_at 4 b at_queue_length - number_at 4 b at_green_count) b (place the_queue b + slot_size * number_at 4 b at_green_count)
+module _ (b : List ℕ) (d : Id) where
+  -- Where it is found among the red ones.
+  module _ (k : ℕ) (j : Some k ≡ first_with d (reds_in b)) where
+    k_known : (k ≡ position d (reds_in b)) × (k < length (reds_in b))
+    k_known = some_found d (reds_in b) k j
 
-module _ (b : List ℕ) (d : Id) (k count : ℕ) (j : k ≡ position d (reds_in b)) (e : count ≡ number_at 4 b at_queue_length - number_at 4 b at_green_count) where
-  position_known : (s : Server) → Holds s b → k ≡ position d s.log.red
-  position_known s r = j ∙ ap (position d) (reds_read s b r)
+    pub slot_known : CountsIn b → (green at : ℕ) → green ≡ number_at 4 b at_green_count → at ≡ place the_queue b → SlotIn (at + slot_size * green) k b
+    unfolding reds_in
+    slot_known n green at f g =
+        let size = actions_count (number_at 4 b at_queue_length - number_at 4 b at_green_count) b (place the_queue b + slot_size * number_at 4 b at_green_count) in
+        record { header = omega (arith, n.cuts); inside = omega (arith, size, k_known, f, g, n.queue_end, n.green) }
 
-  counted : (s : Server) → Holds s b → length s.log.red ≡ count
-  counted s r = reds_counted s b r ∙ sym e
+    pub green_taken : (green at : ℕ) (c : List ℕ) → green ≡ number_at 4 b at_green_count → at ≡ place the_queue b → c ≡ promoted (at + slot_size * green) k (green + 1) b
+        → (s : Server) → Holds s b → c ≡ image (with_log (green_id d s.log) s) b
+    unfolding green_id promote_found
+    green_taken green at c f g n s r =
+        let red = reds_read s b r in
+        let p : k ≡ position d s.log.red = k_known.0 ∙ ap (position d) red in
+        let x = position_found d s.log.red (omega (arith, k_known.1, p, ap length red)) in
+        let i = numbers s b r in
+        let there : at ≡ offset s.servers s.quota the_queue = g ∙ holds_place s b r the_queue in
+        let greens : green ≡ length (shown_log s).green = f ∙ i.green in
+        n
+        ∙ (λ t. promoted (there t + slot_size * greens t) (p t) (greens t + 1) b)
+        ∙ promoted_image s b r d (position d s.log.red) x
+        ∙ ap (λ (o : Option Action). image (with_log (promote_found o s.log) s) b) (sym x.found)
 
-  pub green_passed : count ≤ k → (s : Server) → Holds s b → b ≡ image (with_log (green_id d s.log) s) b
+  -- Where it is not.
+  pub green_passed : None ≡ first_with d (reds_in b) → (s : Server) → Holds s b → b ≡ image (with_log (green_id d s.log) s) b
   unfolding green_id promote_found
   green_passed h s r =
-      let absent : find d s.log.red ≡ none = position_none d s.log.red (omega (arith, position_known s r, counted s r)) in
+      let red = reds_read s b r in
+      let absent : find d s.log.red ≡ none = position_none d s.log.red (omega (arith, none_found d (reds_in b) h, ap (position d) red, ap length red)) in
       sym (rw absent r.written)
-
-  pub green_taken : (green at : ℕ) (c : List ℕ) → green ≡ number_at 4 b at_green_count → at ≡ place the_queue b → k < count → c ≡ promoted (at + slot_size * green) k (green + 1) b
-      → (s : Server) → Holds s b → c ≡ image (with_log (green_id d s.log) s) b
-  unfolding green_id promote_found
-  green_taken green at c f g h n s r =
-      let p = position_known s r in
-      let x = position_found d s.log.red (omega (arith, counted s r)) in
-      let i = numbers s b r in
-      let there : at ≡ offset s.servers s.quota the_queue = g ∙ holds_place s b r the_queue in
-      let greens : green ≡ length (shown_log s).green = f ∙ i.green in
-      n
-      ∙ (λ t. promoted (there t + slot_size * greens t) (p t) (greens t + 1) b)
-      ∙ promoted_image s b r d (position d s.log.red) x
-      ∙ ap (λ (o : Option Action). image (with_log (promote_found o s.log) s) b) (sym x.found)

@@ -136,28 +136,14 @@ shift_made b c e count green at k f g h few i j s r =
     ∙ shifted_image s b r k (omega (arith, n.green))
 
 module _ (b : List ℕ) (white to : ℕ) (e : Computes (λ s. s.white) b white) where
-  -- A length that is no higher is not taken.
-  pub raise_none : to ≤ white → (s : Server) → Holds s b → b ≡ image (with_white (max s.white (min (length s.log.green) to)) s) b
-  raise_none h s r =
-      let same : max s.white (min (length s.log.green) to) ≡ s.white = omega (arith, e s r) in
-      sym (ap (λ (w : ℕ). image (with_white w s) b) same ∙ r.written)
-
-  module _ (green : ℕ) (g : green ≡ number_at 4 b at_green_count) (h : white < to) (c : List ℕ) where
-    pub raise_all : green ≤ to - white → ((s : Server) → Holds s b → c ≡ image (with_white (s.white + green) s) b)
-        → (s : Server) → Holds s b → c ≡ image (with_white (max s.white (min (length s.log.green) to)) s) b
-    raise_all l f s r =
-        let low = (well_formed_facts s r.formed).white in
-        let same : s.white + green ≡ max s.white (min (length s.log.green) to) =
-        omega (arith, e s r, (numbers s b r).green, length-drop s.white s.log.green) in
-        f s r ∙ ap (λ (w : ℕ). image (with_white w s) b) same
-
-    pub raise_some : to - white < green → ((s : Server) → Holds s b → c ≡ image (with_white (s.white + (to - white)) s) b)
-        → (s : Server) → Holds s b → c ≡ image (with_white (max s.white (min (length s.log.green) to)) s) b
-    raise_some l f s r =
-        let low = (well_formed_facts s r.formed).white in
-        let same : s.white + (to - white) ≡ max s.white (min (length s.log.green) to) =
-        omega (arith, e s r, (numbers s b r).green, length-drop s.white s.log.green) in
-        f s r ∙ ap (λ (w : ℕ). image (with_white w s) b) same
+  -- As many turn white as are missing, if so many are green.
+  pub raise_least : (green m : ℕ) → green ≡ number_at 4 b at_green_count → white < to → m ≡ min green (to - white) → (c : List ℕ)
+      → ((s : Server) → Holds s b → c ≡ image (with_white (s.white + m) s) b) → (s : Server) → Holds s b → c ≡ image (with_white (max s.white (min (length s.log.green) to)) s) b
+  raise_least green m g h k c f s r =
+      let low = (well_formed_facts s r.formed).white in
+      let same : s.white + m ≡ max s.white (min (length s.log.green) to) =
+      omega (arith, e s r, (numbers s b r).green, length-drop s.white s.log.green) in
+      f s r ∙ ap (λ (w : ℕ). image (with_white w s) b) same
 
 -- ---- for a caller
 

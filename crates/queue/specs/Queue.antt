@@ -1,6 +1,6 @@
 -- Actions in a state's buffer: the numbers that say where they are, and what changes in place do to the bytes.
-use Rattle.std.specs.Prelude.{ℕ, suc, ◌+◌, ◌*◌, ◌-◌, ◌≤◌, ◌<◌, ◌≡◌, List, [], ◌∷◌, ◌++◌, length, take, drop, true}
-use Rattle.base.specs.Tests.{pick}
+use Rattle.std.specs.Prelude.{ℕ, suc, ◌+◌, ◌*◌, ◌-◌, ◌≤◌, ◌<◌, ◌≡◌, Option, Some, None, List, [], ◌∷◌, ◌++◌, length, take, drop, true}
+use Rattle.base.specs.Tests.{◌<?◌, pick}
 use Rattle.base.specs.Bytes.{bytes_of, number_at, part_at, slot}
 use Rattle.base.specs.Lists.{sum}
 use Rattle.base.specs.Patched.{patched}
@@ -22,6 +22,10 @@ use Rattle.image.specs.Counts.{queue_count, green_count, place, most_actions, Co
 unfoldable pub position : Id → List Action → ℕ
 position d [] = 0
 position d (a ∷ l) = pick (same_id d a.id) 0 (suc (position d l))
+
+-- The place of the first with the id d.
+unfoldable pub first_with : Id → List Action → Option ℕ
+first_with d xs = pick (position d xs <? length xs) (Some (position d xs)) None
 
 -- The red actions: those behind the green ones.
 unfoldable pub reds_in : List ℕ → List Action

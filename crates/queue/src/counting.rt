@@ -5,7 +5,7 @@ ghost use Rattle.replication.specs.Machine.Colours.{of_creator, unwhite};
 ghost use Rattle.image.specs.Counts.{CountsIn};
 ghost use Rattle.image.specs.Holding.{Computes};
 
-use image::places::{THE_QUEUE, place_of};
+use image::places::{Section, place_of};
 use octets::numbers::{num8, num32};
 use record::State;
 
@@ -14,10 +14,7 @@ fn one_of(state: &[u8], at: usize, creator: u8) -> u32
     requires { at < length state.now }
     ensures { (result ≡ of_creator creator (action_at state.now at ∷ [])) × (result ≤ 1) }
 {
-    if num8(state, at) == creator {
-        return 1;
-    }
-    0
+    u32::from(num8(state, at) == creator)
 }
 
 // How many actions of this creator are entered and not white: one pass over the slots in use.
@@ -26,12 +23,10 @@ pub fn count_of(state: &[u8], creator: u8) -> u32
     ensures { Computes (λ s. unwhite creator s.white s.log) state.now result }
 {
     let slots = num32(state, State::AT_QUEUE_LENGTH) as usize;
-    let at = place_of(state, THE_QUEUE);
+    let at = place_of(state, Section::Queue);
     let mut count: u32 = 0;
-    let mut k: usize = 0;
-    while k < slots {
+    for k in 0..slots {
         count += one_of(state, at + State::SLOT * k, creator);
-        k += 1;
     }
     count
 }

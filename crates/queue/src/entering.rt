@@ -5,7 +5,7 @@ ghost use Rattle.image.specs.Layout.{slot_size, header_size};
 ghost use Rattle.queue.specs.Queue.{RoomFor, RoomIfNext, appended, queued, popped, BecomesEntered, BecomesRed};
 
 use crate::slots::put_slot;
-use image::places::{THE_OWN, THE_QUEUE, place_of};
+use image::places::{Section, place_of};
 use octets::moves::shift_down;
 use octets::numbers::{num8, num16, num32, put16, put32};
 use record::{ActionHead, State};
@@ -16,7 +16,7 @@ fn append(state: &mut [u8], head: ActionHead, payload: &[u8])
     ensures { state.new ≡ appended (action_of head payload.now) state.old }
 {
     let count = num32(state, State::AT_QUEUE_LENGTH);
-    let at = place_of(state, THE_QUEUE) + State::SLOT * count as usize;
+    let at = place_of(state, Section::Queue) + State::SLOT * count as usize;
     put_slot(state, at, head, payload);
     put32(state, State::AT_QUEUE_LENGTH, count + 1);
 }
@@ -52,16 +52,11 @@ pub fn enter(state: &mut [u8], head: ActionHead, payload: &[u8])
 {
     let me = num8(state, State::AT_ME);
     let own = num16(state, State::AT_OWN_COUNT);
-    let at = place_of(state, THE_OWN);
-    let creator = head.creator;
+    let at = place_of(state, Section::Own);
     enqueue(state, head, payload);
-    if creator != me {
-        return;
+    if head.creator == me && 0 < own {
+        pop_own(state, at, own);
     }
-    if own == 0 {
-        return;
-    }
-    pop_own(state, at, own);
 }
 
 // The action is entered if it is its creator's next one; "any other is ignored".
@@ -70,8 +65,7 @@ pub fn red(state: &mut [u8], head: ActionHead, payload: &[u8])
     ensures { BecomesRed (action_of head payload.now) state.old state.new }
 {
     let cut = num16(state, State::SIZE + State::CUT * head.creator as usize);
-    if cut as u32 + 1 != head.index as u32 {
-        return;
+    if u32::from(cut) + 1 == u32::from(head.index) {
+        enter(state, head, payload);
     }
-    enter(state, head, payload);
 }

@@ -1,24 +1,21 @@
 // An action in slots, by its id.
 ghost use Rattle.std.specs.Prelude.{◌≡◌, ◌+◌, ◌*◌, ◌≤◌, length};
-ghost use Rattle.record.specs.Values.{id_of};
+ghost use Rattle.record.specs.Values.{the_id};
 ghost use Rattle.image.specs.Layout.{slot_size};
 ghost use Rattle.image.specs.Decode.{actions_at};
-ghost use Rattle.queue.specs.Queue.{position};
+ghost use Rattle.queue.specs.Queue.{first_with};
 
-use record::State;
-use record::parts::is_id;
+use record::{ActionId, State};
 
-// How many of the `count` slots from `at` on come before the first with this id: all where there is none.
-pub fn find(state: &[u8], at: usize, count: usize, creator: u8, index: u16) -> usize
+// The first of the `count` slots from `at` on that has this id.
+pub fn find(state: &[u8], at: usize, count: usize, id: ActionId) -> Option<usize>
     requires { at + slot_size * count ≤ length state.now }
-    ensures { result ≡ position (id_of creator index) (actions_at count state.now at) }
+    ensures { result ≡ first_with (the_id id) (actions_at count state.now at) }
 {
-    let mut k: usize = 0;
-    while k < count {
-        if is_id(state, at + State::SLOT * k, creator, index) {
-            return k;
+    for k in 0..count {
+        if id.is_at(state, at + State::SLOT * k) {
+            return Some(k);
         }
-        k += 1;
     }
-    count
+    None
 }

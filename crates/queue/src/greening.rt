@@ -1,19 +1,19 @@
 // An action turns green.
-ghost use Rattle.std.specs.Prelude.{◌≡◌, ◌+◌, ◌*◌, ◌-◌, ◌≤◌};
-ghost use Rattle.record.specs.Values.{id_of, action_of};
+ghost use Rattle.std.specs.Prelude.{◌≡◌, ◌+◌, ◌*◌, ◌≤◌};
+ghost use Rattle.record.specs.Values.{the_id, action_of};
 ghost use Rattle.replication.specs.Machine.Types.{with_log};
 ghost use Rattle.replication.specs.Machine.Colours.{green_id};
 ghost use Rattle.image.specs.Holding.{HoldsSuch, Becomes};
-ghost use Rattle.queue.specs.Queue.{position, reds_in, promoted, Placed, BecomesGreen, SlotIn};
-ghost use Rattle.image.specs.Counts.{queue_count, green_count, CountsIn};
+ghost use Rattle.queue.specs.Queue.{first_with, reds_in, promoted, Placed, BecomesGreen, SlotIn};
+ghost use Rattle.image.specs.Counts.{CountsIn};
 ghost use Rattle.format.specs.Limits.{most_ids};
 
 use crate::entering::red;
 use crate::finding::find;
 use crate::slots::last_to_front;
-use image::places::{THE_QUEUE, place_of};
+use image::places::{Section, place_of};
 use octets::numbers::{num32, put32};
-use record::{ActionHead, State};
+use record::{ActionHead, ActionId, State};
 
 // The slot k from `at` on goes to the front of those before it.
 fn promote(state: &mut [u8], at: usize, k: usize, green: u32)
@@ -25,46 +25,27 @@ fn promote(state: &mut [u8], at: usize, k: usize, green: u32)
     put32(state, State::AT_GREEN_COUNT, green + 1);
 }
 
-// How many red actions there are.
-fn red_count(state: &[u8]) -> usize
+// The first red action with this id, by how many red ones come before it.
+fn red_place(state: &[u8], id: ActionId) -> Option<usize>
     requires { CountsIn state.now }
-    ensures { result ≡ queue_count state.now - green_count state.now }
+    ensures { result ≡ first_with (the_id id) (reds_in state.now) }
 {
-    (num32(state, State::AT_QUEUE_LENGTH) - num32(state, State::AT_GREEN_COUNT)) as usize
-}
-
-// How many red actions come before the first with this id: all where there is none.
-fn red_place(state: &[u8], creator: u8, index: u16) -> usize
-    requires { CountsIn state.now }
-    ensures { result ≡ position (id_of creator index) (reds_in state.now) }
-{
-    let reds = red_count(state);
     let green = num32(state, State::AT_GREEN_COUNT);
-    find(
-        state,
-        place_of(state, THE_QUEUE) + State::SLOT * green as usize,
-        reds,
-        creator,
-        index,
-    )
+    let reds = num32(state, State::AT_QUEUE_LENGTH) - green;
+    let at = place_of(state, Section::Queue) + State::SLOT * green as usize;
+    find(state, at, reds as usize, id)
 }
 
 // "A newly green action goes directly above the last green one, and reds above it move up. One already green stays."
-pub fn green_id(state: &mut [u8], creator: u8, index: u16)
+pub fn green_id(state: &mut [u8], id: ActionId)
     requires { CountsIn state.old }
-    ensures { Becomes (λ s. with_log (green_id (id_of creator index) s.log) s) state.old state.new }
+    ensures { Becomes (λ s. with_log (green_id (the_id id) s.log) s) state.old state.new }
 {
-    let k = red_place(state, creator, index);
-    if red_count(state) <= k {
-        return;
+    if let Some(k) = red_place(state, id) {
+        let green = num32(state, State::AT_GREEN_COUNT);
+        let at = place_of(state, Section::Queue) + State::SLOT * green as usize;
+        promote(state, at, k, green);
     }
-    let green = num32(state, State::AT_GREEN_COUNT);
-    promote(
-        state,
-        place_of(state, THE_QUEUE) + State::SLOT * green as usize,
-        k,
-        green,
-    );
 }
 
 // "As red, then" green.
@@ -73,5 +54,5 @@ pub fn green(state: &mut [u8], head: ActionHead, payload: &[u8])
     ensures { BecomesGreen (action_of head payload.now) state.old state.new }
 {
     red(state, head, payload);
-    green_id(state, head.creator, head.index);
+    green_id(state, head.id());
 }

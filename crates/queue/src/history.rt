@@ -20,10 +20,8 @@ pub fn entered_count(state: &[u8]) -> u32
 {
     let servers = num8(state, State::AT_SERVERS) as usize;
     let mut total: u32 = 0;
-    let mut k: usize = 0;
-    while k < servers {
-        total += num16(state, State::SIZE + State::CUT * k) as u32;
-        k += 1;
+    for k in 0..servers {
+        total += u32::from(num16(state, State::SIZE + State::CUT * k));
     }
     total
 }

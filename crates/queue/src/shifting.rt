@@ -8,7 +8,7 @@ ghost use Rattle.image.specs.Holding.{Becomes};
 ghost use Rattle.queue.specs.Queue.{shifted, QueueIn};
 
 use crate::history::white_length;
-use image::places::{THE_QUEUE, place_of};
+use image::places::{Section, place_of};
 use octets::moves::shift_down;
 use octets::numbers::{num32, put32};
 use record::State;
@@ -30,7 +30,7 @@ pub fn shift_out(state: &mut [u8], k: u32)
 {
     let count = num32(state, State::AT_QUEUE_LENGTH);
     let green = num32(state, State::AT_GREEN_COUNT);
-    let at = place_of(state, THE_QUEUE);
+    let at = place_of(state, Section::Queue);
     drop_slots(state, at, count, k);
     put32(state, State::AT_GREEN_COUNT, green - k);
 }
@@ -41,13 +41,8 @@ pub fn raise_white(state: &mut [u8], to: u32)
     ensures { Becomes (λ s. with_white (max s.white (min (length s.log.green) to)) s) state.old state.new }
 {
     let white = white_length(state);
-    if to <= white {
-        return;
+    if white < to {
+        let green = num32(state, State::AT_GREEN_COUNT);
+        shift_out(state, green.min(to - white));
     }
-    let green = num32(state, State::AT_GREEN_COUNT);
-    if green <= to - white {
-        shift_out(state, green);
-        return;
-    }
-    shift_out(state, to - white);
 }

@@ -30,11 +30,7 @@ pub fn slot_at(s: &[u8], at: usize) -> [u8; State::SLOT]
     ensures { result ≡ part_at slot_size s.now at }
 {
     let mut x: [u8; State::SLOT] = [0; State::SLOT];
-    let mut j: usize = 0;
-    while j < State::SLOT {
-        x[j] = s[at + j];
-        j += 1;
-    }
+    x.copy_from_slice(&s[at..at + State::SLOT]);
     x
 }
 

@@ -1,7 +1,7 @@
 -- The ranges of an event's parts, as the code tests them.
 use Prim.Native.Nat.{ℕ, ◌+◌, ◌*◌, ◌≤◌, ◌<◌}
 use mathlib.Core.Path.{◌≡◌, refl, sym, ◌∙◌}
-use mathlib.Core.Bool.{Bool, true, false, not}
+use mathlib.Core.Bool.{Bool, true, false}
 use mathlib.Core.List.{List}
 use native.Mathlib.Omega.{arith}
 use lib.ListN.{length}
@@ -10,8 +10,8 @@ use mir.Syntax.{w32}
 use mir.Val.{Fits}
 use Rattle.format.specs.Limits.{most_payload_limit, most_number_limit}
 use Rattle.base.specs.Tests.{◌≤?◌, ◌<?◌, ◌and◌}
-use Rattle.base.proofs.TestLaws.{lt_yes, eq_yes, and_yes, and_le, and_gt}
-use Rattle.base.proofs.Branches.{told_le, and_true, and_false, and_answered, and_denied}
+use Rattle.base.proofs.TestLaws.{lt_yes, le_no, eq_yes, and_yes, and_no, and_le, and_gt}
+use Rattle.base.proofs.Branches.{told_le, and_true, and_false}
 use Rattle.base.specs.Bytes.{Bytes, part_at}
 use Rattle.base.proofs.BytesLaws.{part_length, part_are_bytes, numbers_length}
 use Rattle.format.specs.Types.{Context as FormatContext, State as FormatState}
@@ -47,14 +47,14 @@ module _ (c : Context) (s : StateAt) (e : List ℕ) (p : ℕ) (b : Bytes e) (h :
   unfolding state_from state_of
   number = ids_number s.head.yellow_count e s.yellow_at
 
-  pub lists_denied : p < s.head.yellow_count → false ≡ lists_ok (context_of c) (state_from s e)
+  pub lists_denied : (x : ℕ) → x ≡ s.head.yellow_count → p < x → leb x p ≡ lists_ok (context_of c) (state_from s e)
   unfolding lists_ok context_of
-  lists_denied g = and_yes _ _ _ cuts_in (and_gt _ (c.servers * c.quota) _ (omega (arith, number)))
+  lists_denied x f g = told_le x p ∙ le_no x p g ∙ and_yes _ _ _ cuts_in (and_gt _ (c.servers * c.quota) _ (omega (arith, number)))
 
-  pub lists_answered : (r : Bool) → s.head.yellow_count ≤ p → r ≡ ids_ok (context_of c) (ids_at s.head.yellow_count e s.yellow_at)
+  pub lists_answered : (r : Bool) (x : ℕ) → x ≡ s.head.yellow_count → x ≤ p → r ≡ ids_ok (context_of c) (ids_at s.head.yellow_count e s.yellow_at)
       → r ≡ lists_ok (context_of c) (state_from s e)
   unfolding lists_ok context_of state_from state_of
-  lists_answered r g k = and_yes _ _ _ cuts_in (and_le _ (c.servers * c.quota) _ _ (omega (arith, number)) k)
+  lists_answered r x f g k = and_yes _ _ _ cuts_in (and_le _ (c.servers * c.quota) _ _ (omega (arith, number)) k)
 
 -- A State's ranges are those of its numbers and those of its lists.
 
@@ -96,8 +96,8 @@ module _ (c : Context) (s : StateAt) (e : List ℕ) (b : Bool) (h : Fits w32 s.h
   unfolding state_from
   numbers_are = f e e s.cuts_at s.yellow_at
 
-  pub state_denied : not b ≡ true → false ≡ state_ok (context_of c) (state_from s e)
-  state_denied g = and_denied b (numbers_ok (context_of c) (state_from s e)) _ numbers_are g ∙ state_parts c s e h i
+  pub state_denied : b ≡ false → b ≡ state_ok (context_of c) (state_from s e)
+  state_denied g = g ∙ and_no (numbers_ok (context_of c) (state_from s e)) _ (sym numbers_are ∙ g) ∙ state_parts c s e h i
 
-  pub state_answered : (r : Bool) → not b ≡ false → r ≡ lists_ok (context_of c) (state_from s e) → r ≡ state_ok (context_of c) (state_from s e)
-  state_answered r g k = and_answered b (numbers_ok (context_of c) (state_from s e)) r _ numbers_are g k ∙ state_parts c s e h i
+  pub state_answered : (r : Bool) → b ≡ true → r ≡ lists_ok (context_of c) (state_from s e) → r ≡ state_ok (context_of c) (state_from s e)
+  state_answered r g k = and_yes r (numbers_ok (context_of c) (state_from s e)) _ (sym numbers_are ∙ g) k ∙ state_parts c s e h i

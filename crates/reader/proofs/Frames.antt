@@ -1,6 +1,6 @@
 -- What the functions that frame a kind answer.
 use Prim.Native.Nat.{ℕ, ◌+◌, ◌*◌, ◌-◌, ◌<◌}
-use mathlib.Core.Path.{◌≡◌, refl, sym, ap, ◌∙◌}
+use mathlib.Core.Path.{◌≡◌, refl, ap, ◌∙◌}
 use mathlib.Core.List.{List}
 use mathlib.Core.Option.{some}
 use Rattle.std.specs.Prelude.{Some, None}
@@ -38,16 +38,16 @@ action_is : (e : List ℕ) (at : ℕ) → action_from (action_in e at) e ≡ act
 unfolding action_from action_of action_in action_at id_of id_at payload_at
 action_is e at = let a : at + action_payload_at + 1 ≡ at + action_head_size = omega arith in rw a
 
-pub action_good : (e : List ℕ) (m : ℕ) (a : ActionAt) → m ≡ number_at 1 e (at_body + action_payload_at) → action_size + m ≡ length e → a ≡ action_in e at_body → (n : ℕ)
+pub action_good : (e : List ℕ) (m x : ℕ) (a : ActionAt) → x ≡ number_at 1 e (at_body + action_payload_at) → m ≡ x → action_size + m ≡ length e → a ≡ action_in e at_body → (n : ℕ)
     → Answers (body_in of_action n e) n (Some (Action a)) e
 unfolding length_for record_of record_in Inside PayloadInside action_in
-action_good e m a f h g n = good of_action n e (Action a) (omega arith) (ap action (rw g (action_is e at_body))) (rw g (omega arith))
+action_good e m x a f l h g n = good of_action n e (Action a) (omega arith) (ap action (rw g (action_is e at_body))) (rw g (omega arith))
 
-pub retransmission_good : (e : List ℕ) (m s p : ℕ) (a : ActionAt) → m ≡ number_at 1 e (resent_at + action_payload_at) → retransmission_size + m ≡ length e → a ≡ action_in e resent_at
+pub retransmission_good : (e : List ℕ) (m x s p : ℕ) (a : ActionAt) → x ≡ number_at 1 e (resent_at + action_payload_at) → m ≡ x → retransmission_size + m ≡ length e → a ≡ action_in e resent_at
     → s ≡ number_at 1 e sender_at → p ≡ number_at 4 e position_at
     → (n : ℕ) → Answers (body_in of_retransmission n e) n (Some (Retransmission s p a)) e
 unfolding length_for record_of record_in Inside PayloadInside action_in
-retransmission_good e m s p a f h g i j n =
+retransmission_good e m x s p a f l h g i j n =
     good of_retransmission n e (Retransmission s p a) (omega arith) (rw (g, i, j) (ap (retransmission (number_at 1 e sender_at) (number_at 4 e position_at)) (action_is e resent_at))) (rw g (omega arith))
 
 -- a State
@@ -63,17 +63,23 @@ pub state_short_lem : (n : ℕ) (e : List ℕ) → length e < behind n + standin
 unfolding length_for
 state_short_lem n e h = bad of_state n e (λ z. omega arith)
 
-pub state_bad : (n : ℕ) (e : List ℕ) (h : StateHead) → h ≡ head_in n e (behind n) → (behind n + standing_size + id_size * h.yellow_count ≡ length e → ⊥)
-    → Answers (body_in of_state n e) n None e
-state_bad n e h g k = bad of_state n e (λ z. k (sym (state_length_lem n e h g) ∙ z))
+-- Its cuts end at `at`, and it has m ids.
 
-pub state_good : (n : ℕ) (e : List ℕ) (h : StateHead) → h ≡ head_in n e (behind n) → behind n + standing_size + id_size * h.yellow_count ≡ length e
+pub state_bad : (n : ℕ) (e : List ℕ) (h : StateHead) (at m : ℕ) → h ≡ head_in n e at → (at + standing_size + id_size * m ≡ length e → ⊥)
+    → m ≡ h.yellow_count → at ≡ behind n → Answers (body_in of_state n e) n None e
+state_bad n e h at m g k i f = bad of_state n e (λ z. k (omega (arith, state_length_lem n e h (g ∙ ap (head_in n e) f), z)))
+
+state_framed : (n : ℕ) (e : List ℕ) (h : StateHead) → h ≡ head_in n e (behind n) → behind n + standing_size + id_size * h.yellow_count ≡ length e
     → Answers (body_in of_state n e) n (Some (State (state_in h (behind n)))) e
 unfolding record_of record_in Inside head_in
-state_good n e h g k =
+state_framed n e h g k =
     let s : h.servers ≡ n = ap (λ (x : StateHead). x.servers) g in
     let i : ListsInside n (state_in h (behind n)) e = record { servers = s; cuts = omega arith; ids = omega arith } in
     good of_state n e (State (state_in h (behind n))) (state_length_lem n e h g ∙ k) (ap state (rw g (state_is n e))) i
+
+pub state_good : (n : ℕ) (e : List ℕ) (h : StateHead) (at m : ℕ) → h ≡ head_in n e at → at + standing_size + id_size * m ≡ length e
+    → m ≡ h.yellow_count → at ≡ behind n → Answers (body_in of_state n e) n (Some (State (state_in h at))) e
+state_good n e h at m g k i f = rw f (state_framed n e h (g ∙ ap (head_in n e) f) (omega arith))
 
 -- the rest
 
@@ -89,9 +95,9 @@ pub transitional_good : (e : List ℕ) (s : ℕ) → length e ≡ transitional_s
 unfolding length_for record_of record_in Inside
 transitional_good e s h f n = good of_transitional n e (Transitional s) (omega arith) (rw f) tt
 
-pub request_good : (e : List ℕ) (m : ℕ) → m ≡ number_at 1 e at_body → request_size + m ≡ length e → (n : ℕ) → Answers (body_in of_request n e) n (Some (Request request_size m)) e
+pub request_good : (e : List ℕ) (m x : ℕ) → x ≡ number_at 1 e at_body → m ≡ x → request_size + m ≡ length e → (n : ℕ) → Answers (body_in of_request n e) n (Some (Request request_size m)) e
 unfolding length_for record_of record_in Inside payload_at
-request_good e m f h n = good of_request n e (Request request_size m) (omega arith) (rw f) (omega arith)
+request_good e m x f l h n = good of_request n e (Request request_size m) (omega arith) (rw (l, f)) (omega arith)
 
 pub recovery_good : (e : List ℕ) → length e ≡ recovery_size → (n : ℕ) → Answers (body_in of_recovery n e) n (Some Recovery) e
 unfolding length_for record_of record_in Inside

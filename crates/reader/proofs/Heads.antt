@@ -12,10 +12,12 @@ use borrow.Author.Tests.{not-true, not-false}
 use Rattle.format.specs.Limits.{version}
 use Rattle.format.specs.Places.{length_size, at_version, at_kind, at_body}
 use Rattle.base.specs.Tests.{◌≤?◌}
-use Rattle.base.proofs.TestLaws.{pick_yes, pick_no, pick_ne, and_holds, and_le, and_gt, and_eq, and_ne, le_holds}
+use Rattle.base.proofs.TestLaws.{pick_yes, pick_no, and_holds, and_le, and_gt, and_eq, and_ne, le_holds}
 use Rattle.base.proofs.Branches.{told_eq}
 use Rattle.base.specs.Bytes.{number_at}
-use Rattle.format.specs.Types.{Kind, kind_number}
+use Rattle.format.specs.Types.{Kind as FormatKind, kind_number}
+use Rattle.record.specs.declared.kinds.Kind.{Kind}
+use Rattle.record.specs.Codes.{the_kind}
 use Rattle.format.specs.Read.{kind_named}
 use Rattle.format.proofs.Reading.{kind_named_lem}
 use Rattle.reader.specs.Framed.{head_ok, body_in, body_as, framed_in, found, FoundInside, Answers}
@@ -42,37 +44,28 @@ head_long e b f g = le_holds at_body (length e) (and_holds (at_body ≤? length 
 
 -- the kind
 
-unnamed : (x : ℕ) → (x ≡ 1 → ⊥) → (x ≡ 2 → ⊥) → (x ≡ 3 → ⊥) → (x ≡ 4 → ⊥) → (x ≡ 5 → ⊥) → (x ≡ 6 → ⊥) → (x ≡ 7 → ⊥) → (x ≡ 8 → ⊥) → kind_named x ≡ none
-unfolding kind_named kind_number
-unnamed x a b c d e f g h =
-    sym
-    (pick_ne x 1 _ _ _ a
-    (pick_ne x 2 _ _ _ b
-    (pick_ne x 3 _ _ _ c
-    (pick_ne x 4 _ _ _ d (pick_ne x 5 _ _ _ e (pick_ne x 6 _ _ _ f (pick_ne x 7 _ _ _ g (pick_ne x 8 _ _ _ h refl))))))))
-
 pub framed_bad : (e : List ℕ) (n : ℕ) (b : Bool) → b ≡ head_ok e → not b ≡ true → Answers (framed_in n e) n None e
 unfolding framed_in found FoundInside
 framed_bad e n b f g = record { is = pick_no (head_ok e) _ _ _ (sym f ∙ not-true b g) refl; within = tt }
 
-framed_as : (o : FormatOption Kind) (e : List ℕ) (n : ℕ) (b : Bool) (r : Option Event) → b ≡ head_ok e → not b ≡ false → kind_named (number_at 1 e at_kind) ≡ o
+framed_as : (o : FormatOption FormatKind) (e : List ℕ) (n : ℕ) (b : Bool) (r : Option Event) → b ≡ head_ok e → not b ≡ false → kind_named (number_at 1 e at_kind) ≡ o
     → Answers (body_as o n e) n r e → Answers (framed_in n e) n r e
 unfolding framed_in
 framed_as o e n b r f g h k =
-    record { is = pick_yes (head_ok e) _ _ _ (sym f ∙ not-false b g) (k.is ∙ ap (λ (p : FormatOption Kind). body_as p n e) (sym h)); within = k.within }
+    record { is = pick_yes (head_ok e) _ _ _ (sym f ∙ not-false b g) (k.is ∙ ap (λ (p : FormatOption FormatKind). body_as p n e) (sym h)); within = k.within }
 
-pub framed_one : (k : Kind) (e : List ℕ) (n x : ℕ) (b : Bool) (r : Option Event) → b ≡ head_ok e → not b ≡ false → x ≡ number_at 1 e at_kind → x ≡ kind_number k
-    → Answers (body_in k n e) n r e → Answers (framed_in n e) n r e
+-- The kind v that the byte names is k.
+
+pub framed_one : (k : Kind) (v : Kind) (e : List ℕ) (n x : ℕ) (b : Bool) (r : Option Event) → b ≡ head_ok e → not b ≡ false → x ≡ number_at 1 e at_kind
+    → kind_number (the_kind v) ≡ x → v ≡ k → Answers (body_in (the_kind k) n e) n r e → Answers (framed_in n e) n r e
 unfolding body_as
-framed_one k e n x b r f g h i j = framed_as (some k) e n b r f g (ap kind_named (sym h ∙ i) ∙ kind_named_lem k) j
+framed_one k v e n x b r f g h i l j =
+    framed_as (some (the_kind k)) e n b r f g (ap kind_named (sym h ∙ sym i ∙ ap (λ (y : Kind). kind_number (the_kind y)) l) ∙ kind_named_lem (the_kind k)) j
 
-pub framed_arm : (k : Kind) (e : List ℕ) (n x : ℕ) (b : Bool) (r : Option Event) → b ≡ head_ok e → not b ≡ false → x ≡ number_at 1 e at_kind → x ≡ kind_number k
-    → ((m : ℕ) → Answers (body_in k m e) m r e) → Answers (framed_in n e) n r e
-framed_arm k e n x b r f g h i j = framed_one k e n x b r f g h i (j n)
+pub framed_arm : (k : Kind) (v : Kind) (e : List ℕ) (n x : ℕ) (b : Bool) (r : Option Event) → b ≡ head_ok e → not b ≡ false → x ≡ number_at 1 e at_kind
+    → kind_number (the_kind v) ≡ x → v ≡ k → ((m : ℕ) → Answers (body_in (the_kind k) m e) m r e) → Answers (framed_in n e) n r e
+framed_arm k v e n x b r f g h i l j = framed_one k v e n x b r f g h i l (j n)
 
-pub framed_other : (e : List ℕ) (n x : ℕ) (b : Bool) → b ≡ head_ok e → not b ≡ false → x ≡ number_at 1 e at_kind
-    → (x ≡ 1 → ⊥) → (x ≡ 2 → ⊥) → (x ≡ 3 → ⊥) → (x ≡ 4 → ⊥) → (x ≡ 5 → ⊥) → (x ≡ 6 → ⊥) → (x ≡ 7 → ⊥) → (x ≡ 8 → ⊥)
-    → Answers (framed_in n e) n None e
+pub framed_other : (e : List ℕ) (n x : ℕ) (b : Bool) → b ≡ head_ok e → not b ≡ false → x ≡ number_at 1 e at_kind → kind_named x ≡ none → Answers (framed_in n e) n None e
 unfolding body_as found FoundInside
-framed_other e n x b f g h h₁ h₂ h₃ h₄ h₅ h₆ h₇ h₈ =
-    framed_as none e n b None f g (ap kind_named (sym h) ∙ unnamed x h₁ h₂ h₃ h₄ h₅ h₆ h₇ h₈) (record { is = refl; within = tt })
+framed_other e n x b f g h k = framed_as none e n b None f g (ap kind_named (sym h) ∙ k) (record { is = refl; within = tt })

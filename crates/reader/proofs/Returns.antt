@@ -1,12 +1,11 @@
 -- What each return of the reader is worth.
 use Prim.Native.Nat.{ℕ}
 use mathlib.Core.Path.{◌≡◌, refl, sym, ap, ◌∙◌}
-use mathlib.Core.Bool.{Bool, true, false, not}
+use mathlib.Core.Bool.{Bool, true, false}
 use mathlib.Core.List.{List}
 use mathlib.Core.Option.{some}
 use Rattle.std.specs.Prelude.{Option, Some, None, Ok, Err}
 use native.Mathlib.Omega.{arith}
-use borrow.Author.Tests.{not-true, not-false}
 use Rattle.base.specs.Tests.{◌and◌}
 use Rattle.base.proofs.TestLaws.{pick_yes, pick_no, and_no, both_yes}
 use Rattle.base.proofs.Branches.{and_false}
@@ -55,36 +54,36 @@ unfolding placed
 refusal_two c e = record { least = omega arith; most = omega arith }
 
 pub read_context : (c : Context) (e : List ℕ) (f : Option Event) (v : Event) (b : Bool) → Answers (framed_in c.servers e) c.servers f e → f ≡ Some v
-    → b ≡ context_ok (context_of c) → not b ≡ true → meaning (Err OutOfRange) e ≡ read (context_of c) e
+    → b ≡ context_ok (context_of c) → b ≡ false → meaning (Err OutOfRange) e ≡ read (context_of c) e
 unfolding meaning judged record_ok
 read_context c e f v b h g i j =
-    pick_no _ (refused 2) _ _ (sym (and_no (context_ok (context_of c)) (fields_ok (context_of c) (record_of v e)) (sym i ∙ not-true b j))) refl
+    pick_no _ (refused 2) _ _ (sym (and_no (context_ok (context_of c)) (fields_ok (context_of c) (record_of v e)) (sym i ∙ j))) refl
     ∙ sym (framed_as c e f v h g)
 
 both_no : (t u : Bool) → u ≡ false → (t and u) ≡ false
 both_no t u h = rw h (sym (and_false t))
 
 pub read_ranges : (c : Context) (e : List ℕ) (f : Option Event) (v : Event) (b d : Bool) → Answers (framed_in c.servers e) c.servers f e → f ≡ Some v
-    → b ≡ context_ok (context_of c) → not b ≡ false → d ≡ fields_ok (context_of c) (record_of v e) → not d ≡ true
+    → b ≡ context_ok (context_of c) → b ≡ true → d ≡ fields_ok (context_of c) (record_of v e) → d ≡ false
     → meaning (Err OutOfRange) e ≡ read (context_of c) e
 unfolding meaning judged record_ok
 read_ranges c e f v b d h g i j k l =
-    pick_no _ (refused 2) _ _ (both_no (context_ok (context_of c)) (fields_ok (context_of c) (record_of v e)) (sym k ∙ not-true d l)) refl
+    pick_no _ (refused 2) _ _ (both_no (context_ok (context_of c)) (fields_ok (context_of c) (record_of v e)) (sym k ∙ l)) refl
     ∙ sym (framed_as c e f v h g)
 
 pub read_good : (c : Context) (e : List ℕ) (f : Option Event) (v : Event) (b d : Bool) → Answers (framed_in c.servers e) c.servers f e → f ≡ Some v
-    → b ≡ context_ok (context_of c) → not b ≡ false → d ≡ fields_ok (context_of c) (record_of v e) → not d ≡ false
+    → b ≡ context_ok (context_of c) → b ≡ true → d ≡ fields_ok (context_of c) (record_of v e) → d ≡ true
     → meaning (Ok v) e ≡ read (context_of c) e
 unfolding meaning judged record_ok
 read_good c e f v b d h g i j k l =
-    pick_yes _ (says (record_of v e)) _ _ (both_yes (context_ok (context_of c)) (fields_ok (context_of c) (record_of v e)) (sym i ∙ not-false b j) (sym k ∙ not-false d l)) refl
+    pick_yes _ (says (record_of v e)) _ _ (both_yes (context_ok (context_of c)) (fields_ok (context_of c) (record_of v e)) (sym i ∙ j) (sym k ∙ l)) refl
     ∙ sym (framed_as c e f v h g)
 
 pub read_placed : (c : Context) (e : List ℕ) (f : Option Event) (v : Event) (b d : Bool) → Answers (framed_in c.servers e) c.servers f e → f ≡ Some v → Bytes e
-    → b ≡ context_ok (context_of c) → not b ≡ false → d ≡ fields_ok (context_of c) (record_of v e) → not d ≡ false → placed c (Ok v) e
+    → b ≡ context_ok (context_of c) → b ≡ true → d ≡ fields_ok (context_of c) (record_of v e) → d ≡ true → placed c (Ok v) e
 unfolding placed
-read_placed c e f v b d h g y i j k l = event_placed c v e (sym i ∙ not-false b j) (inside_as c e f v h g) y (sym k ∙ not-false d l)
+read_placed c e f v b d h g y i j k l = event_placed c v e (sym i ∙ j) (inside_as c e f v h g) y (sym k ∙ l)
 
 pub read_readable : (c : Context) (e : List ℕ) (f : Option Event) (v : Event) (b : Bool) → Answers (framed_in c.servers e) c.servers f e → f ≡ Some v → Bytes e
-    → b ≡ context_ok (context_of c) → not b ≡ false → Readable c v e
-read_readable c e f v b h g y i j = record { context = context_in_lem c (sym i ∙ not-false b j); inside = inside_as c e f v h g; bytes = y }
+    → b ≡ context_ok (context_of c) → b ≡ true → Readable c v e
+read_readable c e f v b h g y i j = record { context = context_in_lem c (sym i ∙ j); inside = inside_as c e f v h g; bytes = y }

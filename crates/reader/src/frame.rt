@@ -5,17 +5,18 @@ ghost use Rattle.format.specs.Types.{of_action, of_retransmission, of_state, of_
 ghost use Rattle.reader.specs.Framed.{head_ok, body_in, framed_in, Answers};
 
 use octets::numbers::{num8, num16, num32};
-use record::State;
 use record::events::{Event, StateAt, StateHead, VERSION};
 use record::parts::{action_at, state_head};
+use record::{Kind, State};
 
+// Stays: each frame with a payload tests its length itself, as a function for that test takes as many lines as it saves.
 fn frame_action(e: &[u8]) -> Option<Event>
     ensures { (n : ℕ) → Answers (body_in of_action n e.now) n result e.now }
 {
     if e.len() < Event::ACTION_SIZE {
         return None;
     }
-    let m = num8(e, Event::PAYLOAD) as usize;
+    let m = usize::from(num8(e, Event::PAYLOAD));
     if Event::ACTION_SIZE + m != e.len() {
         return None;
     }
@@ -28,7 +29,7 @@ fn frame_retransmission(e: &[u8]) -> Option<Event>
     if e.len() < Event::RETRANSMISSION_SIZE {
         return None;
     }
-    let m = num8(e, Event::RESENT_PAYLOAD) as usize;
+    let m = usize::from(num8(e, Event::RESENT_PAYLOAD));
     if Event::RETRANSMISSION_SIZE + m != e.len() {
         return None;
     }
@@ -43,12 +44,12 @@ fn frame_retransmission(e: &[u8]) -> Option<Event>
 fn frame_state(e: &[u8], servers: u8) -> Option<Event>
     ensures { Answers (body_in of_state servers e.now) servers result e.now }
 {
-    let at = StateHead::CUTS + State::CUT * (servers as usize);
+    let at = StateHead::CUTS + State::CUT * usize::from(servers);
     if e.len() < at + StateHead::STANDING {
         return None;
     }
     let head = state_head(e, servers, at);
-    if at + StateHead::STANDING + State::ID * (head.yellow_count as usize) != e.len() {
+    if at + StateHead::STANDING + State::ID * usize::from(head.yellow_count) != e.len() {
         return None;
     }
     Some(Event::State(StateAt {
@@ -99,7 +100,7 @@ fn frame_request(e: &[u8]) -> Option<Event>
     if e.len() < Event::REQUEST_SIZE {
         return None;
     }
-    let m = num8(e, Event::BODY) as usize;
+    let m = usize::from(num8(e, Event::BODY));
     if Event::REQUEST_SIZE + m != e.len() {
         return None;
     }
@@ -119,17 +120,14 @@ fn frame_recovery(e: &[u8]) -> Option<Event>
 }
 
 // Whether the length bytes and the version are right. There is a kind byte then.
+#[tactic(auto, using(record::proofs::Chains::chain, base::proofs::BytesLaws::given_bytes_lem), unfolding(crate::specs::Framed::head_ok))]
 fn head_ok(e: &[u8]) -> bool
     ensures value { result ≡ head_ok e.now }
     ensures bytes { Bytes e.now }
 {
-    if e.len() < Event::BODY {
-        return false;
-    }
-    if num16(e, 0) as usize + Event::LENGTH_SIZE != e.len() {
-        return false;
-    }
-    num8(e, Event::VERSION_AT) == VERSION
+    Event::BODY <= e.len()
+        && usize::from(num16(e, 0)) + Event::LENGTH_SIZE == e.len()
+        && num8(e, Event::VERSION_AT) == VERSION
 }
 
 // The event that the bytes frame for a server of this many, its ranges not looked at; or none.
@@ -140,15 +138,17 @@ pub fn framed_event(e: &[u8], servers: u8) -> Option<Event>
     if !head_ok(e) {
         return None;
     }
-    match num8(e, Event::KIND_AT) {
-        Event::ACTION => frame_action(e),
-        Event::RETRANSMISSION => frame_retransmission(e),
-        Event::STATE => frame_state(e, servers),
-        Event::CPC => frame_cpc(e),
-        Event::REGULAR => frame_regular(e),
-        Event::TRANSITIONAL => frame_transitional(e),
-        Event::REQUEST => frame_request(e),
-        Event::RECOVERY => frame_recovery(e),
-        _ => None,
+    let Ok(kind) = Kind::try_from(num8(e, Event::KIND_AT)) else {
+        return None;
+    };
+    match kind {
+        Kind::Action => frame_action(e),
+        Kind::Retransmission => frame_retransmission(e),
+        Kind::State => frame_state(e, servers),
+        Kind::Cpc => frame_cpc(e),
+        Kind::Regular => frame_regular(e),
+        Kind::Transitional => frame_transitional(e),
+        Kind::Request => frame_request(e),
+        Kind::Recovery => frame_recovery(e),
     }
 }

@@ -26,39 +26,25 @@ fn action_ok(c: Context, a: ActionAt) -> bool
     requires { ContextIn c }
     ensures { JudgesAction a result (action_ok (context_of c)) }
 {
-    if !id_ok(c, a.head.creator, a.head.index) {
-        return false;
-    }
-    if !length_ok(a.head.green_length) {
-        return false;
-    }
-    if !length_ok(a.head.white_length) {
-        return false;
-    }
-    a.payload_length <= State::MOST_PAYLOAD
+    id_ok(c, a.head.id())
+        && length_ok(a.head.green_length)
+        && length_ok(a.head.white_length)
+        && a.payload_length <= State::MOST_PAYLOAD
 }
 
 fn retransmission_ok(c: Context, sender: u8, position: u32, action: ActionAt) -> bool
     requires { ContextIn c }
     ensures { JudgesAction action result (λ a. fields_ok (context_of c) (retransmission sender position a)) }
 {
-    if c.servers <= sender {
-        return false;
-    }
-    if !length_ok(position) {
-        return false;
-    }
-    action_ok(c, action)
+    sender < c.servers && length_ok(position) && action_ok(c, action)
 }
 
+#[tactic(auto, using(record::proofs::Chains::chain), unfolding(format::specs::Range::fields_ok, record::specs::Context::context_of))]
 fn transitional_ok(c: Context, set: u8) -> bool
     requires { ContextIn c }
     ensures { result ≡ fields_ok (context_of c) (transitional set) }
 {
-    if !own_set_ok(c, set) {
-        return false;
-    }
-    inside_last(c, set)
+    own_set_ok(c, set) && inside_last(c, set)
 }
 
 // Cuts of two bytes are always in range. K6: "A yellow list has at most n × q ids": these are counted before they are compared.
@@ -67,46 +53,27 @@ fn lists_ok(c: Context, s: StateAt, e: &[u8]) -> bool
     ensures { result ≡ lists_ok (context_of c) (state_from s e.now) }
 {
     let count = s.head.yellow_count;
-    if product(c.servers as u32, c.quota as u32) < count as u32 {
-        return false;
-    }
-    let yellow_at = s.yellow_at;
-    ids_ok(c, e, yellow_at, count as usize)
+    u32::from(count) <= product(u32::from(c.servers), u32::from(c.quota))
+        && ids_ok(c, e, s.yellow_at, usize::from(count))
 }
 
 fn numbers_ok(c: Context, s: StateHead) -> bool
     requires { ContextIn c }
     ensures { (cuts ids : List ℕ) (at start : ℕ) → result ≡ numbers_ok (context_of c) (state_of s cuts at ids start) }
 {
-    if c.servers <= s.sender {
-        return false;
-    }
-    if !length_ok(s.green_length) {
-        return false;
-    }
-    if !index_ok(s.attempt.0) {
-        return false;
-    }
-    let last = s.last;
-    if !primary_ok(c, last) {
-        return false;
-    }
-    let mark = s.mark;
-    if !mark_ok(c, mark) {
-        return false;
-    }
-    status_ok(s.yellow_status)
+    s.sender < c.servers
+        && length_ok(s.green_length)
+        && index_ok(s.attempt.0)
+        && primary_ok(c, s.last)
+        && mark_ok(c, s.mark)
+        && status_ok(s.yellow_status)
 }
 
 fn state_ok(c: Context, s: StateAt, e: &[u8]) -> bool
     requires { ContextIn c × ListsInside c.servers s e.now }
     ensures { result ≡ state_ok (context_of c) (state_from s e.now) }
 {
-    let head = s.head;
-    if !numbers_ok(c, head) {
-        return false;
-    }
-    lists_ok(c, s, e)
+    numbers_ok(c, s.head) && lists_ok(c, s, e)
 }
 
 // Whether the numbers, sets and lists of an event are in range.
@@ -147,11 +114,9 @@ pub fn read(c: Context, e: &[u8]) -> Result<Event, Refusal>
     let Some(v) = framed_event(e, c.servers) else {
         return Err(Refusal::BadRecord);
     };
-    if !context_ok(c) {
-        return Err(Refusal::OutOfRange);
+    if context_ok(c) && event_ok(c, v, e) {
+        Ok(v)
+    } else {
+        Err(Refusal::OutOfRange)
     }
-    if !event_ok(c, v, e) {
-        return Err(Refusal::OutOfRange);
-    }
-    Ok(v)
 }

@@ -2,6 +2,7 @@ pub mod Start
 pub mod Ranges
 pub mod OnePass
 pub mod Turns
-pub mod Made
 pub mod SetCode
 pub mod PartLaws
+pub mod Codes
+pub mod Chains

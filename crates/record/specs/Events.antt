@@ -10,6 +10,7 @@ use Rattle.format.specs.Read.{primary_at}
 use Rattle.record.specs.Values.{last_of, action_of, state_of}
 use Rattle.record.specs.declared.LastPrimary.{LastPrimary}
 use Rattle.record.specs.declared.Mark.{Mark}
+use Rattle.record.specs.declared.ActionId.{ActionId}
 use Rattle.record.specs.declared.events.StateHead.{StateHead}
 use Rattle.record.specs.declared.events.ActionAt.{ActionAt}
 use Rattle.record.specs.declared.events.StateAt.{StateAt}
@@ -52,7 +53,10 @@ Inside n (Transitional s) e = Unit {0}
 Inside n (Request at m) e = at + m ≤ length e
 Inside n Recovery e = Unit {0}
 
--- What the code makes of the bytes from `at` on: an action, a primary component, a mark, and the numbers of a State.
+-- What the code makes of the bytes from `at` on: an id, an action, a primary component, a mark, and the numbers of a State.
+
+abbrev pub id_in : List ℕ → ℕ → ActionId
+id_in e at = record { creator = number_at 1 e at; index = number_at 2 e (at + id_index_at) }
 
 unfoldable pub action_in : List ℕ → ℕ → ActionAt
 action_in e at = record {

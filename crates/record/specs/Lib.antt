@@ -3,3 +3,4 @@ pub mod Start
 pub mod Values
 pub mod Events
 pub mod Limits
+pub mod Codes

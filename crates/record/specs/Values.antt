@@ -1,5 +1,5 @@
 -- What the code's structs stand for.
-use Rattle.std.specs.Prelude.{ℕ, zero, suc, ◌+◌, ◌*◌, ◌%◌, ◌≤◌, ◌<◌, ◌≡◌, Bool, true, not, List, [], ◌∷◌, ◌++◌, length, get_or}
+use Rattle.std.specs.Prelude.{ℕ, zero, suc, ◌+◌, ◌*◌, ◌%◌, ◌≤◌, ◌<◌, ◌≡◌, Bool, true, not, List, [], ◌∷◌, ◌++◌, length, get_or, Option, Some, None}
 use Rattle.base.specs.Tests.{pick, ◌and◌}
 use Rattle.base.specs.Bytes.{numbers_at}
 use Rattle.base.specs.Lists.{Each}
@@ -10,11 +10,18 @@ use Rattle.format.specs.Range.{id_ok, has_id}
 use Rattle.format.specs.Read.{id_at, ids_at}
 use Rattle.record.specs.declared.LastPrimary.{LastPrimary}
 use Rattle.record.specs.declared.Mark.{Mark}
+use Rattle.record.specs.declared.ActionId.{ActionId}
 use Rattle.record.specs.declared.ActionHead.{ActionHead}
 use Rattle.record.specs.declared.events.StateHead.{StateHead}
 
 unfoldable pub id_of : (creator index : ℕ) → Id
 id_of creator index = record { creator = creator; index = index }
+
+abbrev pub the_id : ActionId → Id
+the_id d = id_of d.creator d.index
+
+abbrev pub id_in_head : ActionHead → ActionId
+id_in_head h = record { creator = h.creator; index = h.index }
 
 unfoldable pub primary_of : LastPrimary → Primary
 primary_of p = record { index = p.index.0; attempt = p.attempt.0; set = p.set }
@@ -57,7 +64,11 @@ state_of h cuts at ids start = record {
 unfoldable pub slot : Id → ℕ
 slot d = d.creator * most_quota_limit + d.index % most_quota_limit
 
--- The place past every table's end stands for an id that is out of range.
+-- An id that is out of range has none.
+unfoldable pub table_place : Context → Id → Option ℕ
+table_place c d = pick (id_ok c d) (Some (slot d)) None
+
+-- The same, where the place past every table's end stands for none. Goes when its users have gone over.
 unfoldable pub place_of : Context → Id → ℕ
 place_of c d = pick (id_ok c d) (slot d) most_ids
 

@@ -125,7 +125,7 @@ impl Event {
     pub const RECOVERY_SIZE: usize = Event::BODY;
 }
 
-// The kind bytes.
+// The kind bytes, as `Kind` has them. Goes when its users have gone over.
 impl Event {
     pub const ACTION: u8 = 1;
 

@@ -6,26 +6,30 @@ ghost use Rattle.format.specs.Limits.{most_servers_limit};
 ghost use Rattle.record.specs.Context.{reading_context};
 ghost use Rattle.format.specs.Types.{first_primary};
 ghost use Rattle.record.specs.Start.{start_of};
-ghost use Rattle.record.specs.Values.{last_of};
+ghost use Rattle.record.specs.Values.{id_in_head, last_of};
 
 pub mod sets; // sets.rt: sets of servers
 pub mod range; // range.rt: which numbers and sets are in range
 pub mod lists; // lists.rt: lists of ids in bytes
 pub mod events; // events.rt: an event that was read
 pub mod parts; // parts.rt: parts of a record, read where they lie
+pub mod modes; // modes.rt: the eight states, and their bytes
+pub mod kinds; // kinds.rt: the kinds of records, and their bytes
 
 use events::Event;
+pub use kinds::Kind;
+pub use modes::Mode;
 use sets::everyone;
 
 // The index of a primary component, and that of an attempt to create one: neither stands for the other.
-#[derive(Clone, Copy)]
+#[derive(Clone, Copy, Debug, PartialEq, Eq)]
 pub struct PrimaryIndex(pub u32);
 
-#[derive(Clone, Copy)]
+#[derive(Clone, Copy, Debug, PartialEq, Eq)]
 pub struct AttemptIndex(pub u32);
 
 // The last primary component that a server knows of.
-#[derive(Clone, Copy)]
+#[derive(Clone, Copy, Debug, PartialEq, Eq)]
 pub struct LastPrimary {
     pub index: PrimaryIndex,
     pub attempt: AttemptIndex,
@@ -41,6 +45,7 @@ impl LastPrimary {
     pub const SIZE: usize = LastPrimary::SET + 1;
 
     // The one with these members that no Install made.
+    #[tactic(auto, unfolding(crate::specs::Values::last_of))]
     pub fn first(set: u8) -> LastPrimary
         ensures { result ≡ last_of (first_primary set) }
     {
@@ -53,7 +58,8 @@ impl LastPrimary {
 }
 
 // What a server stores of the primary component that it attempts to create.
-#[derive(Clone, Copy)]
+// Stays: a record's status may be any byte (only 0 and 1 are in range), and its other numbers are read and kept whatever it is.
+#[derive(Clone, Copy, Debug, PartialEq, Eq)]
 pub struct Mark {
     pub status: u8,
     pub index: PrimaryIndex,
@@ -74,8 +80,15 @@ impl Mark {
     pub const SIZE: usize = Mark::BITS + 1;
 }
 
+// The name of an action: which server created it, and the how many-th of that server it is.
+#[derive(Clone, Copy, Debug, PartialEq, Eq)]
+pub struct ActionId {
+    pub creator: u8,
+    pub index: u16,
+}
+
 // An action but its payload.
-#[derive(Clone, Copy)]
+#[derive(Clone, Copy, Debug, PartialEq, Eq)]
 pub struct ActionHead {
     pub creator: u8,
     pub index: u16,
@@ -84,6 +97,15 @@ pub struct ActionHead {
 }
 
 impl ActionHead {
+    pub fn id(self) -> ActionId
+        ensures { result ≡ id_in_head self }
+    {
+        ActionId {
+            creator: self.creator,
+            index: self.index,
+        }
+    }
+
     // Where the index lies in an id; then the creator's green and white length and the payload's length in an action.
     pub const INDEX: usize = 1;
 
@@ -99,6 +121,7 @@ impl ActionHead {
 
 // What a record is read against. `configured` is 0 where there was no regular configuration since the start or the last
 // recovery; `set` is then not looked at.
+// Stays: no plainer as an Option, since both are bytes of the image and `last_of` names what they say.
 #[derive(Clone, Copy)]
 pub struct Context {
     pub servers: u8,
@@ -110,6 +133,7 @@ pub struct Context {
 
 // The numbers of a server's state, in the order of its buffer. Its lists lie beside them. The queue holds what is not white: `green_count` is how
 // many of its first actions are green.
+// Stays: the image's layout (docs/LAYOUT.md) has statuses and the mode as bytes, and a damaged image may have any byte there.
 #[derive(Clone, Copy)]
 pub struct State {
     pub layout: u8,
@@ -156,7 +180,7 @@ impl State {
 
     pub const MOST_LENGTH: u32 = State::MOST_SERVERS as u32 * State::MOST_NUMBER as u32;
 
-    // The numbers of the eight states.
+    // The numbers of the eight states, as `Mode` has them. Goes when its users have gone over.
     pub const NON_PRIM: u8 = 0;
 
     pub const REG_PRIM: u8 = 1;
@@ -256,6 +280,7 @@ impl State {
 
     // "At the start: Non_prim, no configuration, nothing held or marked, yellow invalid, attempt 0, last primary (index 0,
     // attempt 0, all servers)."
+    #[tactic(auto, unfolding(crate::specs::Start::start_of))]
     pub fn start(servers: u8, quota: u16, me: u8) -> State
         requires { servers ≤ most_servers_limit }
         ensures { result ≡ start_of servers quota me }
@@ -296,6 +321,7 @@ impl State {
     }
 
     // What an event that comes in this state is read against.
+    #[tactic(auto, unfolding(crate::specs::Context::reading_context))]
     pub fn context(self) -> Context
         ensures { result ≡ reading_context self }
     {

@@ -1,53 +1,132 @@
 // Lists of ids in bytes: whether they are in range and differ.
 ghost use Rattle.std.specs.Prelude.{◌≡◌, ◌+◌, ◌*◌, ◌≤◌, length};
+ghost use Rattle.format.specs.Limits.{most_quota_limit, most_ids};
 ghost use Rattle.format.specs.Places.{id_size};
 ghost use Rattle.format.specs.Range.{has_id, ids_ok};
 ghost use Rattle.format.specs.Read.{id_at, ids_at};
 ghost use Rattle.record.specs.Context.{context_of, ContextIn};
-ghost use Rattle.record.specs.Values.{id_of, place_of, ids_by, IdsInside, HasPlaces, NextId, MetAt};
+ghost use Rattle.record.specs.Values.{the_id, slot, table_place, place_of, ids_by, IdsInside, HasPlaces, NextId, MetAt};
 
-use crate::parts::is_id;
+use crate::parts::id_at;
 use crate::range::id_ok;
-use crate::{ActionHead, Context, State};
-use octets::numbers::{num8, num16};
+use crate::{ActionId, Context, State};
 
-// The place of an id in range, and State::MOST_IDS for any other.
-fn place(c: Context, creator: u8, index: u16) -> usize
-    requires { ContextIn c }
-    ensures { result ≡ place_of (context_of c) (id_of creator index) }
-{
-    if !id_ok(c, creator, index) {
-        return State::MOST_IDS;
+const QUOTA: usize = State::MOST_QUOTA as usize;
+
+impl ActionId {
+    // Its place in a table that has State::MOST_QUOTA places for each creator.
+    pub fn slot(self) -> usize
+        ensures { result ≡ slot (the_id self) }
+    {
+        usize::from(self.creator) * QUOTA + usize::from(self.index) % QUOTA
     }
-    creator as usize * State::MOST_QUOTA as usize + index as usize % State::MOST_QUOTA as usize
+
+    // The same of an id in range; none of any other.
+    pub fn place(self, c: Context) -> Option<usize>
+        requires { ContextIn c }
+        ensures { result ≡ table_place (context_of c) (the_id self) }
+    {
+        if id_ok(c, self) {
+            Some(self.slot())
+        } else {
+            None
+        }
+    }
 }
 
+// Goes when its users have gone over.
 pub fn place_at(c: Context, e: &[u8], at: usize) -> usize
     requires { ContextIn c × (at + id_size ≤ length e.now) }
     ensures { result ≡ place_of (context_of c) (id_at e.now at) }
 {
-    place(c, num8(e, at), num16(e, at + ActionHead::INDEX))
-}
-
-// Whether one of the `count` ids, each at the front of `step` bytes from `at` on, is this one.
-fn is_among(e: &[u8], at: usize, step: usize, count: usize, creator: u8, index: u16) -> bool
-    requires { IdsInside step count e.now at }
-    ensures { result ≡ has_id (id_of creator index) (ids_by step count e.now at) }
-{
-    let mut here = at;
-    let mut left = count;
-    while 0 < left {
-        if is_id(e, here, creator, index) {
-            return true;
-        }
-        here += step;
-        left -= 1;
+    match id_at(e, at).place(c) {
+        Some(p) => p,
+        None => State::MOST_IDS,
     }
-    false
 }
 
-// Whether the id at `here` is in range and none of the `count` ids, each at the front of `step` bytes from `at` on, which have set their places in
-// the table `met`: it sets its own. Only where its place was set already, those before it are read again.
+// Ids in lent bytes, each at the front of `step` bytes from `at` on.
+#[derive(Clone, Copy)]
+pub struct Ids<'a> {
+    pub bytes: &'a [u8],
+    pub at: usize,
+    pub step: usize,
+    pub count: usize,
+    pub ghost inside: { IdsInside step count bytes.now at },
+}
+
+impl<'a> Ids<'a> {
+    // Whether one of them is this one.
+    fn has(&self, id: ActionId) -> bool
+        ensures { result ≡ has_id (the_id id) (ids_by self.now.step self.now.count self.now.bytes.now self.now.at) }
+    {
+        for k in 0..self.count {
+            if id.is_at(self.bytes, self.at + self.step * k) {
+                return true;
+            }
+        }
+        false
+    }
+
+    // Whether the id at `here` is in range and none of these, which have set their places in the table `met`: it sets its own. Only where its place
+    // was set already, they are read again.
+    pub fn is_new(&self, c: Context, here: usize, met: &mut [u8]) -> bool
+        requires { ContextIn c × NextId self.now.step self.now.count self.now.bytes.now self.now.at here c.servers met.old }
+        ensures { MetAt (context_of c) self.now.step self.now.count self.now.bytes.now self.now.at here result met.old met.new }
+    {
+        let id = id_at(self.bytes, here);
+        let Some(p) = id.place(c) else {
+            return false;
+        };
+        if 0 < met[p] {
+            return !self.has(id);
+        }
+        met[p] = 1;
+        true
+    }
+
+    // Whether they are in range and differ: one pass. What stands in the table does not matter, but zeros spare the pass to read ids again.
+    fn differ_by(&self, c: Context, met: &mut [u8]) -> bool
+        requires { ContextIn c × HasPlaces c.servers met.old }
+        ensures { result ≡ ids_ok (context_of c) (ids_by self.now.step self.now.count self.now.bytes.now self.now.at) }
+    {
+        for k in 0..self.count {
+            let before = Ids {
+                bytes: self.bytes,
+                at: self.at,
+                step: self.step,
+                count: k,
+            };
+            if !before.is_new(c, self.at + self.step * k, met) {
+                return false;
+            }
+        }
+        true
+    }
+
+    fn differ_with<const N: usize>(&self, c: Context) -> bool
+        requires { ContextIn c × (c.servers * most_quota_limit ≤ N) × (N ≤ most_ids) }
+        ensures { result ≡ ids_ok (context_of c) (ids_by self.now.step self.now.count self.now.bytes.now self.now.at) }
+    {
+        let mut met: [u8; N] = [0; N];
+        self.differ_by(c, &mut met)
+    }
+
+    // Whether they are in range and differ. A table for few servers is short.
+    pub fn differ(&self, c: Context) -> bool
+        requires { ContextIn c }
+        ensures { result ≡ ids_ok (context_of c) (ids_by self.now.step self.now.count self.now.bytes.now self.now.at) }
+    {
+        match c.servers {
+            0..=2 => self.differ_with::<{ State::IDS_OF_2 }>(c),
+            3 => self.differ_with::<{ State::IDS_OF_3 }>(c),
+            4 => self.differ_with::<{ State::IDS_OF_4 }>(c),
+            _ => self.differ_with::<{ State::MOST_IDS }>(c),
+        }
+    }
+}
+
+// Goes when its users have gone over.
 pub fn is_new(
     c: Context,
     e: &[u8],
@@ -60,61 +139,13 @@ pub fn is_new(
     requires { ContextIn c × NextId step count e.now at here c.servers met.old }
     ensures { MetAt (context_of c) step count e.now at here result met.old met.new }
 {
-    let p = place_at(c, e, here);
-    if State::MOST_IDS <= p {
-        return false;
-    }
-    if 0 < met[p] {
-        return !is_among(
-            e,
-            at,
-            step,
-            count,
-            num8(e, here),
-            num16(e, here + ActionHead::INDEX),
-        );
-    }
-    met[p] = 1;
-    true
-}
-
-// Whether the `count` ids, each at the front of `step` bytes from `at` on, are in range and differ: one pass. What stands in the table does not
-// matter, but zeros spare the pass to read ids again.
-fn differ_by(c: Context, e: &[u8], at: usize, step: usize, count: usize, met: &mut [u8]) -> bool
-    requires { ContextIn c × IdsInside step count e.now at × HasPlaces c.servers met.old }
-    ensures { result ≡ ids_ok (context_of c) (ids_by step count e.now at) }
-{
-    let mut here = at;
-    let mut k = 0;
-    while k < count {
-        if !is_new(c, e, at, step, k, here, met) {
-            return false;
-        }
-        here += step;
-        k += 1;
-    }
-    true
-}
-
-// Whether the `count` ids, each at the front of `step` bytes from `at` on, are in range and differ. A table for few servers is short.
-pub fn ids_differ(c: Context, e: &[u8], at: usize, step: usize, count: usize) -> bool
-    requires { ContextIn c × IdsInside step count e.now at }
-    ensures { result ≡ ids_ok (context_of c) (ids_by step count e.now at) }
-{
-    if c.servers <= 2 {
-        let mut of_2: [u8; State::IDS_OF_2] = [0; State::IDS_OF_2];
-        return differ_by(c, e, at, step, count, &mut of_2);
-    }
-    if c.servers <= 3 {
-        let mut of_3: [u8; State::IDS_OF_3] = [0; State::IDS_OF_3];
-        return differ_by(c, e, at, step, count, &mut of_3);
-    }
-    if c.servers <= 4 {
-        let mut of_4: [u8; State::IDS_OF_4] = [0; State::IDS_OF_4];
-        return differ_by(c, e, at, step, count, &mut of_4);
-    }
-    let mut met: [u8; State::MOST_IDS] = [0; State::MOST_IDS];
-    differ_by(c, e, at, step, count, &mut met)
+    let before = Ids {
+        bytes: e,
+        at,
+        step,
+        count,
+    };
+    before.is_new(c, here, met)
 }
 
 // Whether the `count` ids from `at` on are in range and differ.
@@ -122,5 +153,11 @@ pub fn ids_ok(c: Context, e: &[u8], at: usize, count: usize) -> bool
     requires { ContextIn c × (at + id_size * count ≤ length e.now) }
     ensures { result ≡ ids_ok (context_of c) (ids_at count e.now at) }
 {
-    ids_differ(c, e, at, State::ID, count)
+    let ids = Ids {
+        bytes: e,
+        at,
+        step: State::ID,
+        count,
+    };
+    ids.differ(c)
 }

@@ -7,7 +7,10 @@ use Rattle.base.specs.Patched.{patched}
 use Rattle.base.proofs.Shifts.{patched_front_part}
 use Rattle.base.proofs.TestLaws.{eq_yes, eq_no, lt_yes, lt_no, pick_yes, pick_no}
 use Rattle.pegs.specs.Image.{count_size, register_length, register_bytes, register_image, pegs_in}
-use Rattle.pegs.specs.Outcome.{register_short, register_number, changed, empty_on, applied, apply_on}
+use Rattle.refusals.specs.declared.Refusal.{Refusal}
+use Rattle.refusals.specs.Numbers.{refusal_number}
+use Rattle.register_check.proofs.Found.{refusal_some}
+use Rattle.pegs.specs.Outcome.{register_short, register_number, Changed, changed, empty_on, applied, apply_on}
 use lib.ListN.{length}
 
 pub start_short : (b : List ℕ) → length b < register_length → changed 7 b ≡ empty_on b
@@ -20,13 +23,11 @@ start_made b c h e =
     pick_no _ _ _ _ (lt_no (length b) register_length h)
     (ap (changed 0) (e ∙ patched_front_part (bytes_of count_size 0) b ∙ ap (λ (y : List ℕ). over y b) (sym (append-nil (bytes_of count_size 0)))))
 
-pub unreadable : (b p : List ℕ) (k : ℕ) → k ≡ register_number b → (k ≡ 0 → ⊥) → changed k b ≡ apply_on b p
+pub unreadable : (b p : List ℕ) (f : Refusal) → refusal_number f ≡ register_number b → changed (refusal_number f) b ≡ apply_on b p
 unfolding apply_on
-unreadable b p k e n = pick_no _ _ _ _ (eq_no (register_number b) 0 (λ f. n (e ∙ f))) (ap (λ (j : ℕ). changed j b) e)
+unreadable b p f e =
+    pick_no _ _ _ _ (eq_no (register_number b) 0 (λ z. refusal_some f (e ∙ z))) (ap (λ (j : ℕ). changed j b) e)
 
-pub readable : (b : List ℕ) (k : ℕ) → k ≡ register_number b → k ≡ 0 → register_number b ≡ 0
-readable b k e z = sym e ∙ z
-
-pub operation_applied : (b p c : List ℕ) (k r : ℕ) → k ≡ register_number b → k ≡ 0 → changed r c ≡ applied p (pegs_in b) b → changed r c ≡ apply_on b p
+pub operation_applied : (b p : List ℕ) (r : Changed) → 0 ≡ register_number b → r ≡ applied p (pegs_in b) b → r ≡ apply_on b p
 unfolding apply_on
-operation_applied b p c k r e z f = pick_yes _ _ _ _ (eq_yes (register_number b) 0 (readable b k e z)) f
+operation_applied b p r e f = pick_yes _ _ _ _ (eq_yes (register_number b) 0 (sym e)) f

@@ -23,13 +23,11 @@ use Rattle.pegs.specs.Outcome.{position}
 use Rattle.pegs.proofs.Places.{formed_most, formed_sorted, found_at, found_low}
 use Rattle.pegs.proofs.PegLaws.{PegRange, peg_length, pegs_length, slots, slots_append}
 use Rattle.pegs.proofs.ImageLaws.{Holds, formed_range, used_occurs, slots_count, slot_at_lem, slot_occurs}
-use Rattle.register.specs.Changes.{slot_at, named_bytes, slot_bytes, widened, inserted, removed, replaced}
+use Rattle.register_check.specs.Slots.{slot_at}
+use Rattle.register.specs.Changes.{place_bytes, named_bytes, slot_bytes, widened, inserted, removed, replaced}
 use Rattle.register.proofs.Made.{named_size}
 
 -- ---- slots
-
-abbrev pub place_bytes : Place → List ℕ
-place_bytes p = bytes_of coordinate_size p.easting ++ bytes_of coordinate_size p.northing
 
 place_size_lem : (p : Place) → length (place_bytes p) ≡ place_size
 place_size_lem p =

@@ -1,4 +1,4 @@
-pub mod ShapeLaws
+pub mod Payloads
 pub mod Made
 pub mod Images
 pub mod Applied

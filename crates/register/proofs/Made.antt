@@ -13,9 +13,12 @@ use Rattle.base.proofs.PatchedLaws.{patched_length, patched_next, lent_patched}
 use Rattle.base.proofs.Sections.{patched_inside}
 use Rattle.base.proofs.Stores.{two_blocks}
 use Rattle.octets.specs.Counted.{counted}
-use Rattle.pegs.specs.Operations.{most_name}
+use Rattle.pegs.specs.Operations.{most_name, coordinate_size, place_size}
 use Rattle.pegs.specs.Image.{count_size, at_place, peg_size}
-use Rattle.register.specs.Changes.{slot_at, RoomFor, SlotsIn, named_bytes, slot_bytes, widened, inserted, removed, replaced}
+use Rattle.register_check.specs.Slots.{slot_at}
+use Rattle.register.specs.Payloads.{placed}
+use Rattle.register.specs.declared.payload.Place.{Place as Given}
+use Rattle.register.specs.Changes.{RoomFor, SlotsIn, named_bytes, place_bytes, slot_bytes, widened, inserted, removed, replaced}
 
 -- ---- a slot
 
@@ -45,6 +48,12 @@ name_put m s s₁ s₂ at l h e f =
     ∙ ap (patched (at + length (counted m)) z) e
     ∙ patched_next at (counted m) z s (omega arith)
     ∙ ap (λ (y : List ℕ). patched at y s) (named_filled m)
+
+pub place_put : (p : Given) (s s₁ s₂ : List ℕ) (at : ℕ) → at + place_size ≤ length s → s₁ ≡ patched at (bytes_of coordinate_size p.easting) s
+    → s₂ ≡ patched (at + coordinate_size) (bytes_of coordinate_size p.northing) s₁ → s₂ ≡ patched at (place_bytes (placed p)) s
+place_put p s s₁ s₂ at h e f =
+    f ∙ ap₂ {A = ℕ} {B = List ℕ} {C = List ℕ} (λ k x. patched (at + k) (bytes_of coordinate_size p.northing) x) (sym (bytes_length coordinate_size p.easting)) e
+    ∙ patched_next at (bytes_of coordinate_size p.easting) (bytes_of coordinate_size p.northing) s (omega arith)
 
 pub slot_put_lem : (m p s s₁ s₂ : List ℕ) (at : ℕ) → length m ≤ most_name → at + peg_size ≤ length s → s₁ ≡ patched at (named_bytes m) s
     → s₂ ≡ patched (at + at_place) p s₁ → s₂ ≡ patched at (slot_bytes m p) s

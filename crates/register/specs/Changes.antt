@@ -1,14 +1,13 @@
 -- What changes in place do to the bytes b of a register: by the place i of a peg and the number n of pegs.
-use Rattle.std.specs.Prelude.{ℕ, ◌+◌, ◌*◌, ◌-◌, ◌≤◌, ◌<◌, List, [], ◌∷◌, length}
+use Rattle.std.specs.Prelude.{ℕ, ◌+◌, ◌*◌, ◌-◌, ◌≤◌, ◌<◌, List, [], ◌∷◌, ◌++◌, length}
 use Rattle.base.specs.Bytes.{bytes_of, part_at, joined, slot}
 use Rattle.base.specs.Patched.{patched}
-use Rattle.pegs.specs.Operations.{most_name}
-use Rattle.pegs.specs.Register.{most_pegs}
-use Rattle.pegs.specs.Image.{count_size, at_place, peg_size, register_length}
-
--- Where the slot i begins.
-abbrev pub slot_at : ℕ → ℕ
-slot_at i = count_size + peg_size * i
+use Rattle.pegs.specs.Operations.{Place, Operation, most_name, coordinate_size}
+use Rattle.base.specs.Tests.{◌=?◌, pick}
+use Rattle.pegs.specs.Register.{most_pegs, number_of, after}
+use Rattle.pegs.specs.Image.{count_size, at_place, peg_size, register_length, register_image, pegs_in}
+use Rattle.pegs.specs.Outcome.{Changed, changed}
+use Rattle.register_check.specs.Slots.{slot_at}
 
 -- Room for one peg more, in the slot i.
 pub record RoomFor (i n : ℕ) (b : List ℕ) : Type 0 where
@@ -26,6 +25,9 @@ pub record SlotsIn (i n : ℕ) (b : List ℕ) : Type 0 where
 
 unfoldable pub named_bytes : (name : List ℕ) → List ℕ
 named_bytes m = joined (bytes_of 1 (length m) ∷ slot most_name m ∷ [])
+
+abbrev pub place_bytes : Place → List ℕ
+place_bytes p = bytes_of coordinate_size p.easting ++ bytes_of coordinate_size p.northing
 
 -- A peg by its name and the bytes of its place.
 unfoldable pub slot_bytes : (name place : List ℕ) → List ℕ
@@ -50,3 +52,10 @@ removed i n b =
 -- The peg in the slot i at another place.
 unfoldable pub replaced : (i : ℕ) → (place : List ℕ) → List ℕ → List ℕ
 replaced i p b = patched (slot_at i + at_place) p b
+
+-- ---- one operation
+
+-- On the register that the bytes hold; a refused one leaves them.
+unfoldable pub operated : Operation → List ℕ → Changed
+operated o b =
+    pick (number_of o (pegs_in b) =? 0) (changed 0 (register_image (after o (pegs_in b)) b)) (changed (number_of o (pegs_in b)) b)

@@ -1,102 +1,103 @@
 // The register changed in its lent buffer: its start, and one operation. Document 02, K2.
 #![tactic(auto)]
 
-ghost use Rattle.std.specs.Prelude.{◌≡◌};
-ghost use Rattle.pegs.specs.Operations.{set_byte};
+ghost use Rattle.std.specs.Prelude.{◌≡◌, ◌≤◌, length};
+ghost use Rattle.refusals.specs.Numbers.{outcome_number};
+ghost use Rattle.pegs.specs.Operations.{set, move as move_to, retire, most_name};
 ghost use Rattle.pegs.specs.Outcome.{register_number, changed, empty_on, applied_to, apply_on};
-ghost use Rattle.register.specs.Shapes.{Operates, Sought};
+ghost use Rattle.register_check.specs.Numbers.{answer_number};
+ghost use Rattle.register.specs.Payloads.{placed};
+ghost use Rattle.register.specs.Changes.{operated};
 
 pub mod payload; // payload.rt: what a payload is
 pub mod changing; // changing.rt: a peg more, less, or elsewhere
 
-use refusals::SHORT_BUFFER;
 use changing::{insert, remove, replace};
-use octets::numbers::{num16, put16};
-use payload::{AT_NAME, RETIRE, SET, Shape, shape_of};
-use register_check::checking::register_number;
+use octets::numbers::put16;
+use payload::{Operation, Place, operation_of};
+use refusals::Refusal;
+use register_check::checking::check_register;
+use register_check::contents::Register;
 use register_check::layout::{MOST_PEGS, REGISTER_LENGTH};
-use register_check::refusals::{NO_OPERATION, PEG_NOT_THERE, PEG_THERE, REGISTER_FULL};
-use register_check::searching::{Search, seek};
+use register_check::refusing::RegisterRefusal;
 
-// A move or a retire: "10 move or retire and the name is not there".
-fn change(register: &mut [u8], payload: &[u8], it: Shape, found: Search) -> u32
-    requires { Sought it found payload.now register.old × (it.operation ≡ set_byte → ⊥) }
-    ensures { changed result register.new ≡ applied_to register.old payload.now }
+// Stays: that the register reads is required, not a field of a struct over `&mut`: no plainer, since a change breaks it between two of its writes.
+
+// "9 set and the name is there, then 13 a set while 4,096 stand"
+fn set_peg(register: &mut [u8], name: &[u8], place: Place) -> Result<(), RegisterRefusal>
+    requires { (register_number register.old ≡ 0) × (length name.now ≤ most_name) }
+    ensures { changed (answer_number result) register.new ≡ operated (set name.now (placed place)) register.old }
 {
-    if !found.there {
-        return PEG_NOT_THERE;
+    let held = Register::of(register);
+    let count = held.count();
+    match held.search(name) {
+        Ok(_) => Err(RegisterRefusal::PegThere),
+        Err(index) => {
+            if MOST_PEGS <= count {
+                return Err(RegisterRefusal::RegisterFull);
+            }
+            insert(register, index, name, place);
+            Ok(())
+        }
     }
-    let index = found.index;
-    let count = num16(register, 0);
-    if it.operation == RETIRE {
-        remove(register, index, count);
-        return 0;
-    }
-    let end = AT_NAME + it.name;
-    replace(register, index, count, &payload[end..]);
-    0
 }
 
-// An operation of this shape: the name is searched once. A set: "9 set and the name is there, then 13 a set while 4,096 stand".
-fn operate(register: &mut [u8], payload: &[u8], it: Shape) -> u32
-    requires { (register_number register.old ≡ 0) × Operates it payload.now }
-    ensures { changed result register.new ≡ applied_to register.old payload.now }
+// "10 move or retire and the name is not there"
+fn move_peg(register: &mut [u8], name: &[u8], place: Place) -> Result<(), RegisterRefusal>
+    requires { (register_number register.old ≡ 0) × (length name.now ≤ most_name) }
+    ensures { changed (answer_number result) register.new ≡ operated (move_to name.now (placed place)) register.old }
 {
-    let end = AT_NAME + it.name;
-    let found = seek(register, &payload[AT_NAME..end]);
-    if it.operation != SET {
-        return change(register, payload, it, found);
+    match Register::of(register).search(name) {
+        Ok(index) => {
+            replace(register, index, place);
+            Ok(())
+        }
+        Err(_) => Err(RegisterRefusal::PegNotThere),
     }
-    let index = found.index;
-    let count = num16(register, 0);
-    let pegs = count as usize;
-    if found.there {
-        return PEG_THERE;
-    }
-    if MOST_PEGS <= pegs {
-        return REGISTER_FULL;
-    }
-    insert(
-        register,
-        index,
-        count,
-        &payload[AT_NAME..end],
-        &payload[end..],
-    );
-    0
 }
 
-// The payload as an operation, "11 the payload is no such operation, tested first": nothing is changed where the number is not 0.
-pub fn apply(register: &mut [u8], payload: &[u8]) -> u32
+fn retire_peg(register: &mut [u8], name: &[u8]) -> Result<(), RegisterRefusal>
     requires { register_number register.old ≡ 0 }
-    ensures { changed result register.new ≡ applied_to register.old payload.now }
+    ensures { changed (answer_number result) register.new ≡ operated (retire name.now) register.old }
 {
-    let it = shape_of(payload);
-    if it.operation == 0 {
-        return NO_OPERATION;
+    match Register::of(register).search(name) {
+        Ok(index) => {
+            remove(register, index);
+            Ok(())
+        }
+        Err(_) => Err(RegisterRefusal::PegNotThere),
     }
-    operate(register, payload, it)
+}
+
+// The payload as an operation, "11 the payload is no such operation, tested first": an error leaves the register as it was.
+pub fn apply(register: &mut [u8], payload: &[u8]) -> Result<(), RegisterRefusal>
+    requires { register_number register.old ≡ 0 }
+    ensures { changed (answer_number result) register.new ≡ applied_to register.old payload.now }
+{
+    match operation_of(payload) {
+        None => Err(RegisterRefusal::NoOperation),
+        Some(Operation::Set { name, place }) => set_peg(register, name, place),
+        Some(Operation::Move { name, place }) => move_peg(register, name, place),
+        Some(Operation::Retire { name }) => retire_peg(register, name),
+    }
 }
 
 // Makes the empty register in its buffer. 7 where the buffer is too short: then it is as before.
-pub fn start(register: &mut [u8]) -> u32
-    ensures { changed result register.new ≡ empty_on register.old }
+pub fn start(register: &mut [u8]) -> Result<(), Refusal>
+    ensures { changed (outcome_number result) register.new ≡ empty_on register.old }
 {
     if register.len() < REGISTER_LENGTH {
-        return SHORT_BUFFER;
+        return Err(Refusal::ShortBuffer);
     }
     put16(register, 0, 0);
-    0
+    Ok(())
 }
 
 // Applies one payload: "7 a buffer below its formula, then 8 a register .. out of range or order or with a name twice", then the
 // numbers of the operation.
-pub fn apply_on(register: &mut [u8], payload: &[u8]) -> u32
-    ensures { changed result register.new ≡ apply_on register.old payload.now }
+pub fn apply_on(register: &mut [u8], payload: &[u8]) -> Result<(), RegisterRefusal>
+    ensures { changed (answer_number result) register.new ≡ apply_on register.old payload.now }
 {
-    let number = register_number(register);
-    if number != 0 {
-        return number;
-    }
+    check_register(register)?;
     apply(register, payload)
 }

@@ -1,16 +1,23 @@
 // What a payload is: an operation on a peg, or none.
-ghost use Rattle.std.specs.Prelude.{◌≡◌, ◌≤◌};
-ghost use Rattle.pegs.specs.Operations.{most_name, name_fits, operation_of};
-ghost use Rattle.register.specs.Shapes.{shape_of, size_of};
+ghost use Rattle.std.specs.Prelude.{◌≡◌, IfSome};
+ghost use Rattle.pegs.specs.Operations.{operation_of};
+ghost use Rattle.register.specs.Payloads.{meaning, Fitting};
 
-use octets::numbers::num8;
-use register_check::layout::{MOST_NAME, PLACE_SIZE};
+use octets::numbers::{num8, num32};
+use register_check::layout::{COORDINATE_SIZE, PLACE_SIZE, name_fits};
 
-// The operation byte, and how long the name is: 0 and 0 of no operation.
+// Easting and northing, by their bits.
 #[derive(Clone, Copy)]
-pub struct Shape {
-    pub operation: u8,
-    pub name: usize,
+pub struct Place {
+    pub easting: u32,
+    pub northing: u32,
+}
+
+#[derive(Clone, Copy)]
+pub enum Operation<'a> {
+    Set { name: &'a [u8], place: Place },
+    Move { name: &'a [u8], place: Place },
+    Retire { name: &'a [u8] },
 }
 
 // The operation bytes.
@@ -25,55 +32,39 @@ pub const AT_NAME_LENGTH: usize = 1;
 
 pub const AT_NAME: usize = AT_NAME_LENGTH + 1;
 
-// A name has 1 to 24 bytes.
-fn name_fits(k: usize) -> bool
-    ensures { result ≡ name_fits k }
-{
-    if k < 1 {
-        return false;
-    }
-    k <= MOST_NAME
-}
-
-// How long a payload with this operation byte and a name of k bytes is: 0 where there is no such operation.
-fn size_of(operation: u8, k: usize) -> usize
-    requires { k ≤ most_name }
-    ensures { result ≡ size_of operation k }
-{
-    if operation == SET {
-        return AT_NAME + k + PLACE_SIZE;
-    }
-    if operation == MOVE {
-        return AT_NAME + k + PLACE_SIZE;
-    }
-    if operation == RETIRE {
-        return AT_NAME + k;
-    }
-    0
-}
-
 // "an operation byte (1 set, 2 move, 3 retire), a name length 1 to 24, the name, and for 1 and 2 easting and northing": nothing may
 // follow.
-pub fn shape_of(payload: &[u8]) -> Shape
-    ensures { result ≡ shape_of (operation_of payload.now) }
+pub fn operation_of(payload: &[u8]) -> Option<Operation<'_>>
+    ensures value { meaning result ≡ operation_of payload.now }
+    ensures fitting { IfSome result Fitting }
 {
-    let none = Shape {
-        operation: 0,
-        name: 0,
-    };
     if payload.len() < AT_NAME {
-        return none;
+        return None;
     }
-    let operation = num8(payload, 0);
-    let k = num8(payload, AT_NAME_LENGTH) as usize;
+    let k = usize::from(num8(payload, AT_NAME_LENGTH));
     if !name_fits(k) {
-        return none;
+        return None;
     }
-    if payload.len() != size_of(operation, k) {
-        return none;
+    let end = AT_NAME + k;
+    let operation = num8(payload, 0);
+    if operation == RETIRE {
+        if payload.len() != end {
+            return None;
+        }
+        let name = &payload[AT_NAME..end];
+        return Some(Operation::Retire { name });
     }
-    Shape {
-        operation: operation,
-        name: k,
+    if payload.len() != end + PLACE_SIZE {
+        return None;
+    }
+    let name = &payload[AT_NAME..end];
+    let place = Place {
+        easting: num32(payload, end),
+        northing: num32(payload, end + COORDINATE_SIZE),
+    };
+    match operation {
+        SET => Some(Operation::Set { name, place }),
+        MOVE => Some(Operation::Move { name, place }),
+        _ => None,
     }
 }

@@ -4,13 +4,13 @@ use mathlib.Core.Path.{◌≡◌, refl, sym, ap, ap₂, subst, ◌∙◌}
 use mathlib.Core.Bool.{Bool, true, false, not}
 use mathlib.Core.List.{List, ◌++◌}
 use native.Mathlib.Omega.{arith}
-use borrow.Author.Tests.{not-true, not-false}
-use lib.Dec.{eqb, ltb}
+use borrow.Author.Tests.{not-true, not-false, ne_eqb, le-leb, lt-leb}
+use lib.Dec.{eqb, leb, ltb}
 use lib.ListN.{length}
 use Rattle.base.specs.Tests.{◌≤?◌, ◌<?◌, ◌=?◌, pick}
 use Rattle.base.specs.Bytes.{Bytes, number_at, part_at, slot, zero_at}
 use Rattle.base.specs.Lists.{every_at, same}
-use Rattle.base.proofs.TestLaws.{Known, known, holds, fails, and_holds, and_yes, and_no, le_yes, le_no, lt_yes, lt_no, eq_yes, eq_no, eq_holds, eq_fails, pick_yes, pick_no}
+use Rattle.base.proofs.TestLaws.{Known, known, holds, fails, and_holds, and_yes, and_no, le_yes, le_no, le_holds, lt_yes, lt_no, eq_yes, eq_no, eq_holds, eq_fails, pick_yes, pick_no}
 use Rattle.base.proofs.Branches.{told_lt, told_eq}
 use Rattle.base.proofs.BytesLaws.{part_length, part_append}
 use Rattle.pegs.specs.Names.{before}
@@ -76,21 +76,17 @@ module _ (b : List ℕ) (p q : ℕ) (s : Tested b p) (t : Tested b q) where
         ∙ further_number word_size b _ _ _ s.bytes u v
         ∙ ap₂ {A = ℕ} {B = ℕ} {C = Bool} (λ c d. ranked c d (further (left_at b p (j + 1)) (left_at b q (j + 1)) (number_at 1 b p <? number_at 1 b q))) (sym e) (sym f)
 
-    pub word_lower : x < y → true ≡ before (peg_at b p).name (peg_at b q).name
+    pub word_other : (x ≡ y → ⊥) → ltb x y ≡ before (peg_at b p).name (peg_at b q).name
     unfolding ranked pick
-    word_lower l = sym (by_word ∙ rw (eq_no x y (λ z. omega arith)) (lt_yes x y l))
+    word_other n = told_lt x y ∙ sym (by_word ∙ rw (eq_no x y n))
 
-    pub word_higher : y < x → false ≡ before (peg_at b p).name (peg_at b q).name
+    pub word_equal : x ≡ y → RisesFrom b p q (j + 1)
     unfolding ranked pick
-    word_higher l = sym (by_word ∙ rw (eq_no x y (λ z. omega arith)) (lt_no x y (omega arith)))
+    word_equal z = record { left = by_word ∙ rw (eq_yes x y z) }
 
-    pub word_equal : y ≤ x → x ≤ y → RisesFrom b p q (j + 1)
-    unfolding ranked pick
-    word_equal l m = record { left = by_word ∙ rw (eq_yes x y (omega arith)) }
-
-pub words_end : (b : List ℕ) (p q j x y : ℕ) → RisesFrom b p q j → j ≤ name_words → name_words ≤ j → x ≡ number_at 1 b p → y ≡ number_at 1 b q
+pub words_end : (b : List ℕ) (p q j x y : ℕ) → RisesFrom b p q j → name_words ≤ j → x ≡ number_at 1 b p → y ≡ number_at 1 b q
     → ltb x y ≡ before (peg_at b p).name (peg_at b q).name
-words_end b p q j x y r h k e f =
+words_end b p q j x y r k e f =
     let m : most_name - word_size * j ≡ 0 = omega arith in
     told_lt x y
     ∙ ap₂ {A = ℕ} {B = ℕ} {C = Bool} (λ c d. c <? d) e f
@@ -116,6 +112,9 @@ module _ (w : ℕ) (b : List ℕ) (p k x : ℕ) (h : k + w ≤ most_name) (e : x
       let z : p + k + 0 ≡ p + k = omega arith in
       not_filled b (most_name - k) (p + k) w 0 (omega arith) (λ n. f (e ∙ ap (number_at w b) (sym z) ∙ n))
 
+  pub first_other : (x ≡ 0 → ⊥) → eqb x 0 ≡ every_at (zero_at b) 1 (most_name - k) (p + k)
+  first_other f = ne_eqb x 0 f ∙ first_filled f
+
   module _ (y : ℕ) (g : y ≡ number_at w b (p + (most_name - w))) where
     last_place : p + k + (most_name - w - k) ≡ p + (most_name - w)
     last_place = omega arith
@@ -123,6 +122,9 @@ module _ (w : ℕ) (b : List ℕ) (p k x : ℕ) (h : k + w ≤ most_name) (e : x
     pub last_filled : (y ≡ 0 → ⊥) → false ≡ every_at (zero_at b) 1 (most_name - k) (p + k)
     last_filled f =
         not_filled b (most_name - k) (p + k) w (most_name - w - k) (omega arith) (λ n. f (g ∙ ap (number_at w b) (sym last_place) ∙ n))
+
+    pub last_other : (y ≡ 0 → ⊥) → eqb y 0 ≡ every_at (zero_at b) 1 (most_name - k) (p + k)
+    last_other f = ne_eqb y 0 f ∙ last_filled f
 
     module _ (zx : x ≡ 0) where
       first : Zeros b w (p + k)
@@ -168,41 +170,40 @@ byte_filled b p k x h l e = told_eq x 0 ∙ go (known (x =? 0))
     go (holds n) = let z = eq_holds x 0 n in n ∙ both_filled 1 b p k x (omega arith) e x there z z l
     go (fails n) = n ∙ first_filled 1 b p k x (omega arith) e (eq_fails x 0 n)
 
-pub none_filled : (b : List ℕ) (p k : ℕ) → most_name ≤ k → true ≡ every_at (zero_at b) 1 (most_name - k) (p + k)
-none_filled b p k h = sym (zeros_every b (most_name - k) (p + k) (λ i l. absurd (omega arith)))
+pub none_filled : (b : List ℕ) (p k : ℕ) → most_name ≤ k → leb most_name k ≡ every_at (zero_at b) 1 (most_name - k) (p + k)
+none_filled b p k h = le-leb most_name k h ∙ sym (zeros_every b (most_name - k) (p + k) (λ i l. absurd (omega arith)))
 
 -- ---- one slot, and the next one
 
+pub fits_most : (k : ℕ) (t : Bool) → t ≡ name_fits k → t ≡ true → k ≤ most_name
+unfolding name_fits
+fits_most k t e y = le_holds k most_name (and_holds (1 ≤? k) (k ≤? most_name) (sym e ∙ y)).1
+
 module _ (b : List ℕ) (p k : ℕ) (e : k ≡ number_at 1 b p) where
-  pub name_missing : k < 1 → false ≡ slot_reads b p
-  unfolding slot_reads name_fits
-  name_missing h = and_no (name_fits (number_at 1 b p)) _ (sym (and_no (1 ≤? number_at 1 b p) _ (le_no 1 _ (rw e at h))))
+  pub name_unfit : (t : Bool) → t ≡ name_fits k → t ≡ false → t ≡ slot_reads b p
+  unfolding slot_reads
+  name_unfit t f n = n ∙ and_no (name_fits (number_at 1 b p)) _ (sym (f ∙ ap name_fits e) ∙ n)
 
-  pub name_long : 1 ≤ k → most_name < k → false ≡ slot_reads b p
-  unfolding slot_reads name_fits
-  name_long l h =
-      and_no (name_fits (number_at 1 b p)) _ (sym (and_yes false (1 ≤? number_at 1 b p) _ (le_yes 1 _ (rw e at l)) (sym (le_no _ most_name (rw e at h)))))
-
-  pub name_filled : (r : Bool) → 1 ≤ k → k ≤ most_name → r ≡ every_at (zero_at b) 1 (most_name - k) (p + at_slot_name + k) → r ≡ slot_reads b p
-  unfolding slot_reads name_fits filled_at
-  name_filled r l h f =
-      and_yes r (name_fits (number_at 1 b p)) _ (sym (and_yes true (1 ≤? number_at 1 b p) _ (le_yes 1 _ (rw e at l)) (sym (le_yes _ most_name (rw e at h)))))
-      (f ∙ ap (λ (m : ℕ). every_at (zero_at b) 1 (most_name - m) (p + at_slot_name + m)) e)
+  pub name_filled : (t r : Bool) → t ≡ name_fits k → t ≡ true → r ≡ every_at (zero_at b) 1 (most_name - k) (p + at_slot_name + k) → r ≡ slot_reads b p
+  unfolding slot_reads filled_at
+  name_filled t r f y g =
+      and_yes r (name_fits (number_at 1 b p)) _ (sym (f ∙ ap name_fits e) ∙ y)
+      (g ∙ ap (λ (m : ℕ). every_at (zero_at b) 1 (most_name - m) (p + at_slot_name + m)) e)
 
 pub tested : (b : List ℕ) (p : ℕ) (t : Bool) → Bytes b → p + peg_size ≤ length b → t ≡ slot_reads b p → not t ≡ false → Tested b p
 tested b p t k h e f = record { bytes = k; room = h; reads = sym e ∙ not-false t f }
 
 module _ (b : List ℕ) (p : ℕ) (t : Bool) (e : t ≡ slot_reads b (p + peg_size)) where
-  pub tested_next : Tested b p → p + peg_size + peg_size ≤ length b → not t ≡ false → Tested b (p + peg_size)
-  tested_next s h f = record { bytes = s.bytes; room = h; reads = sym e ∙ not-false t f }
+  pub tested_next : Tested b p → p + peg_size + peg_size ≤ length b → t ≡ true → Tested b (p + peg_size)
+  tested_next s h f = record { bytes = s.bytes; room = h; reads = sym e ∙ f }
 
-  pub next_denied : not t ≡ true → false ≡ next_reads b p
+  pub next_denied : t ≡ false → t ≡ next_reads b p
   unfolding next_reads
-  next_denied f = and_no (slot_reads b (p + peg_size)) _ (sym e ∙ not-true t f)
+  next_denied f = f ∙ and_no (slot_reads b (p + peg_size)) _ (sym e ∙ f)
 
-  pub next_answered : (r : Bool) → not t ≡ false → r ≡ before (peg_at b p).name (peg_at b (p + peg_size)).name → r ≡ next_reads b p
+  pub next_answered : (r : Bool) → t ≡ true → r ≡ before (peg_at b p).name (peg_at b (p + peg_size)).name → r ≡ next_reads b p
   unfolding next_reads
-  next_answered r f h = and_yes r (slot_reads b (p + peg_size)) _ (sym e ∙ not-false t f) h
+  next_answered r f h = and_yes r (slot_reads b (p + peg_size)) _ (sym e ∙ f) h
 
 -- ---- all slots
 
@@ -212,47 +213,62 @@ pub record SlotsFrom (b : List ℕ) (m left p : ℕ) : Type 0 where
   pub room : p + peg_size + peg_size * left ≤ length b
   pub rest : slots_read b m count_size ≡ every_at (next_reads b) peg_size left p
 
-pub no_slots : (b : List ℕ) (m : ℕ) → m < 1 → true ≡ slots_read b m count_size
-unfolding slots_read
-no_slots b m h = pick_yes (m =? 0) true true _ (eq_yes m 0 (omega arith)) refl
+-- The same, from the slot i on.
+abbrev pub SlotsBehind : (b : List ℕ) (m i : ℕ) → Type 0
+SlotsBehind b m i = SlotsFrom b m (m - 1 - i) (count_size + peg_size * i)
 
-module _ (b : List ℕ) (m : ℕ) (t : Bool) (l : 1 ≤ m) (e : t ≡ slot_reads b count_size) where
+pub no_slots : (b : List ℕ) (m : ℕ) → m ≡ 0 → true ≡ slots_read b m count_size
+unfolding slots_read
+no_slots b m h = pick_yes (m =? 0) true true _ (eq_yes m 0 h) refl
+
+module _ (b : List ℕ) (m : ℕ) (t : Bool) (l : m ≡ 0 → ⊥) (e : t ≡ slot_reads b count_size) where
   pub first_denied : not t ≡ true → false ≡ slots_read b m count_size
   unfolding slots_read
-  first_denied f = pick_no (m =? 0) false true _ (eq_no m 0 (λ z. omega arith)) (and_no (slot_reads b count_size) _ (sym e ∙ not-true t f))
+  first_denied f = pick_no (m =? 0) false true _ (eq_no m 0 l) (and_no (slot_reads b count_size) _ (sym e ∙ not-true t f))
 
-  pub slots_start : Bytes b → count_size + peg_size * m ≤ length b → not t ≡ false → SlotsFrom b m (m - 1) count_size
+  pub slots_start : Bytes b → count_size + peg_size * m ≤ length b → not t ≡ false → SlotsBehind b m 0
   unfolding slots_read
-  slots_start k h f = record {
-    here = tested b count_size t k (omega arith) e f;
-    room = omega arith;
-    rest = sym (pick_no (m =? 0) _ true _ (eq_no m 0 (λ z. omega arith)) (and_yes _ (slot_reads b count_size) _ (sym e ∙ not-false t f) refl));
-  }
+  slots_start k h f =
+      let n : m - 1 ≡ m - 1 - 0 = omega arith in
+      let p : count_size ≡ count_size + peg_size * 0 = omega arith in
+      subst (λ (i : ℕ). SlotsFrom b m i (count_size + peg_size * 0)) n
+      (subst (λ (i : ℕ). SlotsFrom b m (m - 1) i) p
+      (record {
+        here = tested b count_size t k (omega arith) e f;
+        room = omega arith;
+        rest = sym (pick_no (m =? 0) _ true _ (eq_no m 0 l) (and_yes _ (slot_reads b count_size) _ (sym e ∙ not-false t f) refl));
+      }))
 
-module _ (b : List ℕ) (m left p : ℕ) (r : SlotsFrom b m left p) where
-  pub next_room : 0 < left → p + peg_size + peg_size ≤ length b
+module _ (b : List ℕ) (m i : ℕ) (r : SlotsBehind b m i) where
+  pub next_room : i < m - 1 → count_size + peg_size * i + peg_size + peg_size ≤ length b
   next_room l = omega (arith, r.room)
 
-  pub slots_denied : (t : Bool) → 0 < left → t ≡ next_reads b p → not t ≡ true → false ≡ slots_read b m count_size
-  slots_denied t l e f = every_denied (next_reads b) peg_size left p (slots_read b m count_size) t r.rest l e f
+  pub slots_denied : (t : Bool) → i < m - 1 → t ≡ next_reads b (count_size + peg_size * i) → not t ≡ true → false ≡ slots_read b m count_size
+  slots_denied t l e f =
+      every_denied (next_reads b) peg_size (m - 1 - i) (count_size + peg_size * i) (slots_read b m count_size) t r.rest (omega arith) e f
 
-  pub slots_again : (t : Bool) → 0 < left → t ≡ next_reads b p → not t ≡ false → SlotsFrom b m (left - 1) (p + peg_size)
+  pub slots_again : (t : Bool) → i < m - 1 → t ≡ next_reads b (count_size + peg_size * i) → not t ≡ false → SlotsBehind b m (i + 1)
   unfolding next_reads
-  slots_again t l e f = record {
-    here = record { bytes = r.here.bytes; room = next_room l; reads = (and_holds _ _ (sym e ∙ not-false t f)).0 };
-    room = omega (arith, r.room);
-    rest = every_again (next_reads b) peg_size left p (slots_read b m count_size) t r.rest l e f;
-  }
+  slots_again t l e f =
+      let n : m - 1 - i - 1 ≡ m - 1 - (i + 1) = omega arith in
+      let p : count_size + peg_size * i + peg_size ≡ count_size + peg_size * (i + 1) = omega arith in
+      subst (λ (j : ℕ). SlotsFrom b m j (count_size + peg_size * (i + 1))) n
+      (subst (λ (j : ℕ). SlotsFrom b m (m - 1 - i - 1) j) p
+      (record {
+        here = record { bytes = r.here.bytes; room = next_room l; reads = (and_holds _ _ (sym e ∙ not-false t f)).0 };
+        room = omega (arith, r.room);
+        rest = every_again (next_reads b) peg_size (m - 1 - i) (count_size + peg_size * i) (slots_read b m count_size) t r.rest (omega arith) e f;
+      }))
 
-  pub slots_end : left ≤ 0 → true ≡ slots_read b m count_size
-  slots_end l = every_end (next_reads b) peg_size left p (slots_read b m count_size) r.rest l
+  pub slots_end : m - 1 ≤ i → true ≡ slots_read b m count_size
+  slots_end l = every_end (next_reads b) peg_size (m - 1 - i) (count_size + peg_size * i) (slots_read b m count_size) r.rest (omega arith)
 
 -- ---- the whole
 
 module _ (b : List ℕ) (k : Bytes b) (h : register_length ≤ length b) (m : ℕ) (e : m ≡ peg_count b) where
-  pub many_denied : most_pegs < m → false ≡ register_reads b
+  pub many_denied : most_pegs < m → leb m most_pegs ≡ register_reads b
   unfolding checks
-  many_denied l = and_no (peg_count b ≤? most_pegs) _ (le_no _ most_pegs (rw e at l)) ∙ sym (reads_are_checks b k h)
+  many_denied l = lt-leb m most_pegs l ∙ and_no (peg_count b ≤? most_pegs) _ (le_no _ most_pegs (rw e at l)) ∙ sym (reads_are_checks b k h)
 
   pub slots_answered : (r : Bool) → m ≤ most_pegs → r ≡ slots_read b m count_size → r ≡ register_reads b
   unfolding checks

@@ -1,16 +1,18 @@
 -- What is given back of a peg that was searched.
-use Prim.Native.Nat.{ℕ, ◌+◌, ◌*◌, ◌≤◌, ◌<◌}
-use mathlib.Core.Path.{◌≡◌, refl, sym, ap, ap₂, ◌∙◌}
-use mathlib.Core.Bool.{Bool, true, false, not}
+use Prim.Native.Nat.{ℕ, ◌+◌, ◌*◌}
+use mathlib.Core.Path.{◌≡◌, refl, sym, ap, ap₂, subst, ◌∙◌}
 use mathlib.Core.List.{List}
 use mathlib.Core.Option.{Option, some}
 use native.Mathlib.Omega.{arith}
-use borrow.Author.Tests.{not-true, not-false}
 use lib.IntN.{ℤ, pos}
 use lib.ListN.{length}
 use mir.Syntax.{w32}
 use mir.Val.{SFits}
 use mir.Facts.{to_z-of_z}
+use Rattle.std.specs.Prelude.{Ok, Err}
+use Rattle.refusals.specs.declared.Refusal.{Refusal}
+use Rattle.refusals.specs.declared.Refusal.TheVariants.{BadRecord, OutOfRange, QuotaUsed, NotNow, NotFromHere, ShortBuffer, BadState}
+use Rattle.refusals.specs.Numbers.{refusal_number}
 use Rattle.base.specs.Tests.{◌=?◌}
 use Rattle.base.specs.Bytes.{number_at}
 use Rattle.base.specs.Lists.{is_there, at}
@@ -26,8 +28,13 @@ use Rattle.pegs.specs.Outcome.{Found, register_number, position, not_found, foun
 use Rattle.pegs.proofs.Numbers.{not_there}
 use Rattle.pegs.proofs.Places.{found_at, found_low}
 use Rattle.pegs.proofs.ImageLaws.{number_zero, slots_count, slot_at_lem, count_most}
+use Rattle.register_check.specs.declared.refusing.RegisterRefusal.{RegisterRefusal}
+use Rattle.register_check.specs.declared.refusing.RegisterRefusal.TheVariants.{Buffer, PegThere, PegNotThere, NoOperation, BadRectangle, RegisterFull}
+use Rattle.register_check.specs.Numbers.{refused_number}
 use Rattle.register_check.specs.Answers.{located}
-use Rattle.register_check.proofs.Held.{held_sorted, held_room}
+use Rattle.register_check.specs.Search.{search_in}
+use Rattle.register_check.proofs.Held.{held_sorted}
+use Rattle.register_check.proofs.Searched.{found, absent}
 
 pub none_located : (k : ℕ) → located (record { number = k; found = 0; index = 0; easting = pos 0; northing = pos 0 }) ≡ not_found k
 unfolding located not_found
@@ -51,40 +58,44 @@ peg_located b p k q fe fn e = λ j. record {
 
 -- ---- by the number and the search
 
-pub refused_found : (b m : List ℕ) (k : ℕ) (r : Found) → k ≡ register_number b → (k ≡ 0 → ⊥) → r ≡ not_found k → r ≡ find_on b m
-unfolding find_on
-refused_found b m k r e n h = pick_no (register_number b =? 0) r _ _ (eq_no _ 0 (λ z. n (e ∙ z))) (h ∙ ap not_found e)
+-- No refusal has the number 0.
+pub refusal_some : (f : Refusal) → refusal_number f ≡ 0 → ⊥
+refusal_some BadRecord e = absurd (omega arith)
+refusal_some OutOfRange e = absurd (omega arith)
+refusal_some QuotaUsed e = absurd (omega arith)
+refusal_some NotNow e = absurd (omega arith)
+refusal_some NotFromHere e = absurd (omega arith)
+refusal_some ShortBuffer e = absurd (omega arith)
+refusal_some BadState e = absurd (omega arith)
 
-module _ (b m : List ℕ) (k : ℕ) (ok : k ≡ register_number b) (z : k ≡ 0) where
-  no_refusal : register_number b ≡ 0
-  no_refusal = sym ok ∙ z
+pub refused_some : (g : RegisterRefusal) → refused_number g ≡ 0 → ⊥
+refused_some (Buffer f) e = refusal_some f e
+refused_some PegThere e = absurd (omega arith)
+refused_some PegNotThere e = absurd (omega arith)
+refused_some NoOperation e = absurd (omega arith)
+refused_some BadRectangle e = absurd (omega arith)
+refused_some RegisterFull e = absurd (omega arith)
 
-  searched : (r : Found) → r ≡ found_if (position m (pegs_in b)) (find m (pegs_in b)) → r ≡ find_on b m
+module _ (b m : List ℕ) (r : Found) where
+  pub refused_found : (f : Refusal) (k : ℕ) → k ≡ refusal_number f → refusal_number f ≡ register_number b → r ≡ not_found k → r ≡ find_on b m
   unfolding find_on
-  searched r h = pick_yes (register_number b =? 0) r _ _ (eq_yes _ 0 no_refusal) h
+  refused_found f k e n h =
+      pick_no (register_number b =? 0) r _ _ (eq_no _ 0 (λ z. refusal_some f (n ∙ z))) (h ∙ ap not_found (e ∙ n))
 
-  module _ (i : ℕ) (t : Bool) (e : t ≡ is_there (find m (pegs_in b))) where
-    pub absent_found : (r : Found) → not t ≡ true → r ≡ not_found 0 → r ≡ find_on b m
+  module _ (c : List ℕ) (e : c ≡ b) (ok : register_number c ≡ 0) (k : ℕ) where
+    searched : r ≡ found_if (position m (pegs_in c)) (find m (pegs_in c)) → r ≡ find_on b m
+    unfolding find_on
+    searched h = subst (λ (x : List ℕ). r ≡ find_on x m) e (pick_yes (register_number c =? 0) r _ _ (eq_yes _ 0 ok) h)
+
+    pub absent_found : Err k ≡ search_in m (pegs_in c) → r ≡ not_found 0 → r ≡ find_on b m
     unfolding found_if
-    absent_found r f h =
-        searched r (h ∙ ap (found_if (position m (pegs_in b))) (sym (not_there (find m (pegs_in b)) (sym e ∙ not-true t f))))
+    absent_found f h = searched (h ∙ ap (found_if (position m (pegs_in c))) (sym (not_there (find m (pegs_in c)) (absent c ok m k f))))
 
-    module _ (p : i ≡ position m (pegs_in b)) (f : not t ≡ false) where
-      there : is_there (find m (pegs_in b)) ≡ true
-      there = sym e ∙ not-false t f
-
-      inside : i < peg_count b
-      inside = omega (arith, found_low m (pegs_in b) (held_sorted b no_refusal) there, slots_count b)
-
-      pub found_few : i < most_pegs
-      found_few = omega (arith, inside, count_most b (number_zero b no_refusal))
-
-      pub found_room : count_size + peg_size * i + peg_size ≤ length b
-      found_room = held_room b no_refusal i inside
-
-      pub present_found : (r : Found) → r ≡ found_if i (some (peg_at b (count_size + peg_size * i)).place) → r ≡ find_on b m
-      present_found r h =
-          let here = found_at m (pegs_in b) (held_sorted b no_refusal) there in
-          let same : peg_at b (count_size + peg_size * i) ≡ here.peg = some_same (sym (slot_at_lem b i inside) ∙ ap (at (pegs_in b)) p ∙ here.stands) in
-          let place : find m (pegs_in b) ≡ some (peg_at b (count_size + peg_size * i)).place = here.placed ∙ ap (λ (g : Peg). some g.place) (sym same) in
-          searched r (h ∙ ap₂ {A = ℕ} {B = Option Place} {C = Found} found_if p (sym place))
+    pub present_found : Ok k ≡ search_in m (pegs_in c) → r ≡ found_if k (some (peg_at c (count_size + peg_size * k)).place) → r ≡ find_on b m
+    present_found f h =
+        let it = found c ok m k f in
+        let here = found_at m (pegs_in c) (held_sorted c ok) it.there in
+        let same : peg_at c (count_size + peg_size * k) ≡ here.peg =
+        some_same (sym (slot_at_lem c k it.inside) ∙ ap (at (pegs_in c)) it.index ∙ here.stands) in
+        let place : find m (pegs_in c) ≡ some (peg_at c (count_size + peg_size * k)).place = here.placed ∙ ap (λ (g : Peg). some g.place) (sym same) in
+        searched (h ∙ ap₂ {A = ℕ} {B = Option Place} {C = Found} found_if it.index (sym place))

@@ -7,6 +7,7 @@ use lib.ListN.{length, drop, length-take, length-drop}
 use Rattle.base.specs.Bytes.{number_at, part_at}
 use Rattle.pegs.specs.Operations.{most_name}
 use Rattle.pegs.specs.Claim.{Sorted}
+use Rattle.pegs.specs.Register.{most_pegs}
 use Rattle.pegs.specs.Image.{count_size, at_slot_name, peg_size, peg_at, peg_count, pegs_in}
 use Rattle.pegs.specs.Outcome.{register_number}
 use Rattle.pegs.proofs.Places.{formed_sorted}
@@ -31,3 +32,12 @@ module _ (b : List ℕ) (ok : register_number b ≡ 0) where
   held_name k h =
       let f = (slot_range b (number_zero b ok) k h).most in
       omega (arith, f, name_length b (count_size + peg_size * k) (held_room k h) f)
+
+  -- The slot k: it lies in the buffer, and its name is no longer than 24 bytes.
+  pub record HeldSlot (k : ℕ) : Type 0 where
+    pub few : k < most_pegs
+    pub room : count_size + peg_size * k + peg_size ≤ length b
+    pub name : number_at 1 b (count_size + peg_size * k) ≤ most_name
+
+  pub held_slot : (k : ℕ) → k < peg_count b → HeldSlot k
+  held_slot k h = record { few = omega (arith, count_most b (number_zero b ok)); room = held_room k h; name = held_name k h }

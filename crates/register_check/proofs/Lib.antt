@@ -1,10 +1,9 @@
-pub mod Compared
 pub mod Held
+pub mod Compared
 pub mod Searched
 pub mod Filled
 pub mod Words
 pub mod Checked
 pub mod ReadsLaw
 pub mod CheckCode
-pub mod Millimetres
 pub mod Found

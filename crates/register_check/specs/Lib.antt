@@ -1,2 +1,4 @@
 pub mod Slots
+pub mod Search
+pub mod Numbers
 pub mod Answers

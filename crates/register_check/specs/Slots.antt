@@ -8,6 +8,10 @@ use Rattle.pegs.specs.Operations.{most_name, name_fits}
 use Rattle.pegs.specs.Register.{most_pegs}
 use Rattle.pegs.specs.Image.{count_size, at_slot_name, peg_size, peg_at, peg_count}
 
+-- Where the slot i begins.
+abbrev pub slot_at : ℕ → ℕ
+slot_at i = count_size + peg_size * i
+
 -- Names are compared by words of four bytes; so many are a name with its filling.
 abbrev pub word_size : ℕ
 word_size = 4

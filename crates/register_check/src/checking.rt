@@ -1,16 +1,20 @@
 // Whether a lent buffer holds a register: one look at each slot in use, many bytes at once.
-ghost use Rattle.std.specs.Prelude.{◌≡◌, ◌+◌, ◌*◌, ◌-◌, ◌≤◌, ◌<◌, ◌^◌, length};
+ghost use Rattle.std.specs.Prelude.{◌≡◌, ◌+◌, ◌*◌, ◌-◌, ◌≤◌, ◌<◌, length, MatchResult};
 ghost use Rattle.base.specs.Bytes.{Bytes, number_at, zero_at};
 ghost use Rattle.base.specs.Lists.{every_at};
 ghost use Rattle.pegs.specs.Names.{before};
 ghost use Rattle.pegs.specs.Operations.{most_name};
 ghost use Rattle.pegs.specs.Image.{count_size, peg_size, register_length, peg_at, register_reads};
 ghost use Rattle.pegs.specs.Outcome.{register_number};
+ghost use Rattle.refusals.specs.Numbers.{refusal_number, outcome_number};
 ghost use Rattle.register_check.specs.Slots.{long_size, slot_reads, next_reads, slots_read, Tested};
 
-use super::layout::{AT_SLOT_NAME, COUNT_SIZE, MOST_NAME, MOST_PEGS, PEG_SIZE, REGISTER_LENGTH};
-use refusals::{BAD_STATE, SHORT_BUFFER};
+use super::contents::Register;
+use super::layout::{
+    AT_SLOT_NAME, COUNT_SIZE, MOST_NAME, MOST_PEGS, PEG_SIZE, REGISTER_LENGTH, name_fits,
+};
 use octets::numbers::{num8, num16, num32};
+use refusals::Refusal;
 
 // Names are compared by words of four bytes; so many are a name with its filling.
 pub const WORD: usize = 4;
@@ -22,18 +26,12 @@ const LONG: usize = 2 * WORD;
 
 const LAST_LONG: usize = MOST_NAME - LONG;
 
-fn wide(b: u32) -> u64
-    ensures { (result ≡ b) × (result < 2 ^ 32) }
-{
-    b as u64
-}
-
 // The number in the eight bytes from `at` on.
 fn long(b: &[u8], at: usize) -> u64
     requires { at + long_size ≤ length b.now }
     ensures { result ≡ number_at long_size b.now at }
 {
-    wide(num32(b, at)) * 4294967296 + wide(num32(b, at + WORD))
+    u64::from(num32(b, at)) * 4294967296 + u64::from(num32(b, at + WORD))
 }
 
 // Whether zeros stand behind a name of k bytes, which begins at `at`, where less than two words are left: by the first and the last bytes of the
@@ -43,21 +41,12 @@ fn end_filled(b: &[u8], at: usize, k: usize) -> bool
     ensures { result ≡ every_at (zero_at b.now) 1 (most_name - k) (at + k) }
 {
     if k + WORD <= MOST_NAME {
-        if num32(b, at + k) != 0 {
-            return false;
-        }
-        return num32(b, at + (MOST_NAME - WORD)) == 0;
+        return num32(b, at + k) == 0 && num32(b, at + (MOST_NAME - WORD)) == 0;
     }
     if k + 2 <= MOST_NAME {
-        if num16(b, at + k) != 0 {
-            return false;
-        }
-        return num16(b, at + (MOST_NAME - 2)) == 0;
+        return num16(b, at + k) == 0 && num16(b, at + (MOST_NAME - 2)) == 0;
     }
-    if k < MOST_NAME {
-        return num8(b, at + k) == 0;
-    }
-    true
+    MOST_NAME <= k || num8(b, at + k) == 0
 }
 
 // The same of any name: by two words at once.
@@ -71,13 +60,10 @@ fn filled(b: &[u8], at: usize, k: usize) -> bool
     if long(b, at + k) != 0 {
         return false;
     }
-    if long(b, at + LAST_LONG) != 0 {
-        return false;
-    }
     if MOST_NAME < k + 2 * LONG {
-        return true;
+        return long(b, at + LAST_LONG) == 0;
     }
-    long(b, at + k + LONG) == 0
+    long(b, at + LAST_LONG) == 0 && long(b, at + k + LONG) == 0
 }
 
 // The slot at `at`: a name of 1 to 24 bytes, and its filling.
@@ -85,14 +71,8 @@ fn slot_reads(b: &[u8], at: usize) -> bool
     requires { at + peg_size ≤ length b.now }
     ensures { result ≡ slot_reads b.now at }
 {
-    let k = num8(b, at) as usize;
-    if k < 1 {
-        return false;
-    }
-    if k <= MOST_NAME {
-        return filled(b, at + AT_SLOT_NAME, k);
-    }
-    false
+    let k = usize::from(num8(b, at));
+    name_fits(k) && filled(b, at + AT_SLOT_NAME, k)
 }
 
 // The name in the slot at `at` stands before the one in the slot at `next`: filled up, they are compared word by word, then by their lengths.
@@ -100,17 +80,12 @@ fn rises(b: &[u8], at: usize, next: usize) -> bool
     requires { Tested b.now at × Tested b.now next }
     ensures { result ≡ before (peg_at b.now at).name (peg_at b.now next).name }
 {
-    let mut j: usize = 0;
-    while j < WORDS {
+    for j in 0..WORDS {
         let x = num32(b, at + AT_SLOT_NAME + WORD * j);
         let y = num32(b, next + AT_SLOT_NAME + WORD * j);
-        if x < y {
-            return true;
+        if x != y {
+            return x < y;
         }
-        if y < x {
-            return false;
-        }
-        j += 1;
     }
     num8(b, at) < num8(b, next)
 }
@@ -120,11 +95,7 @@ fn next_reads(b: &[u8], at: usize) -> bool
     requires { Tested b.now at × (at + peg_size + peg_size ≤ length b.now) }
     ensures { result ≡ next_reads b.now at }
 {
-    let next = at + PEG_SIZE;
-    if !slot_reads(b, next) {
-        return false;
-    }
-    rises(b, at, next)
+    slot_reads(b, at + PEG_SIZE) && rises(b, at, at + PEG_SIZE)
 }
 
 // The slots of so many pegs.
@@ -132,20 +103,16 @@ fn slots_read(b: &[u8], count: usize) -> bool
     requires { Bytes b.now × (count_size + peg_size * count ≤ length b.now) }
     ensures { result ≡ slots_read b.now count count_size }
 {
-    if count < 1 {
+    if count == 0 {
         return true;
     }
     if !slot_reads(b, COUNT_SIZE) {
         return false;
     }
-    let mut here = COUNT_SIZE;
-    let mut left = count - 1;
-    while 0 < left {
-        if !next_reads(b, here) {
+    for i in 0..count - 1 {
+        if !next_reads(b, COUNT_SIZE + PEG_SIZE * i) {
             return false;
         }
-        here += PEG_SIZE;
-        left -= 1;
     }
     true
 }
@@ -155,22 +122,29 @@ pub fn register_reads(register: &[u8]) -> bool
     requires { register_length ≤ length register.now }
     ensures { result ≡ register_reads register.now }
 {
-    let count = num16(register, 0) as usize;
-    if MOST_PEGS < count {
-        return false;
-    }
-    slots_read(register, count)
+    let count = usize::from(num16(register, 0));
+    count <= MOST_PEGS && slots_read(register, count)
 }
 
-// 7 where the buffer is too short, 8 where it holds no register, and else 0.
-pub fn register_number(register: &[u8]) -> u32
-    ensures { result ≡ register_number register.now }
+// 7 where the buffer is too short, then 8 where it holds no register.
+pub fn check_register(register: &[u8]) -> Result<(), Refusal>
+    ensures { outcome_number result ≡ register_number register.now }
 {
     if register.len() < REGISTER_LENGTH {
-        return SHORT_BUFFER;
+        return Err(Refusal::ShortBuffer);
     }
     if !register_reads(register) {
-        return BAD_STATE;
+        return Err(Refusal::BadState);
     }
-    0
+    Ok(())
+}
+
+impl<'a> Register<'a> {
+    // The register that the bytes hold.
+    pub fn read(bytes: &'a [u8]) -> Result<Register<'a>, Refusal>
+        ensures { MatchResult result (λ it. it.bytes.now ≡ bytes.now) (λ refusal. refusal_number refusal ≡ register_number bytes.now) }
+    {
+        check_register(bytes)?;
+        Ok(Register::of(bytes))
+    }
 }

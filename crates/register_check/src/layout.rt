@@ -1,4 +1,6 @@
 // Where the parts of a register lie in its buffer (docs/LAYOUT.md).
+ghost use Rattle.std.specs.Prelude.{◌≡◌};
+ghost use Rattle.pegs.specs.Operations.{name_fits};
 
 pub const MOST_PEGS: usize = 4096;
 
@@ -19,3 +21,10 @@ pub const PLACE_SIZE: usize = 2 * COORDINATE_SIZE;
 pub const PEG_SIZE: usize = AT_PLACE + PLACE_SIZE;
 
 pub const REGISTER_LENGTH: usize = COUNT_SIZE + PEG_SIZE * MOST_PEGS;
+
+// A name has 1 to 24 bytes.
+pub fn name_fits(size: usize) -> bool
+    ensures { result ≡ name_fits size }
+{
+    1 <= size && size <= MOST_NAME
+}

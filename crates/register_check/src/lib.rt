@@ -1,24 +1,22 @@
 // A register of pegs in a lent buffer: whether it is one, and what stands in it.
 #![tactic(auto)]
 
-ghost use Rattle.std.specs.Prelude.{◌≡◌, ◌+◌, ◌*◌, ◌≤◌, ◌<◌, length};
+ghost use Rattle.std.specs.Prelude.{◌≡◌, ◌<◌};
 ghost use Rattle.std.proofs.Math.Option.{some};
-ghost use Rattle.pegs.specs.Register.{most_pegs};
-ghost use Rattle.pegs.specs.Image.{count_size, peg_size, register_length, peg_at};
+ghost use Rattle.pegs.specs.Image.{register_length, peg_at, peg_count};
 ghost use Rattle.pegs.specs.Outcome.{not_found, found_if, find_on};
+ghost use Rattle.register_check.specs.Slots.{slot_at};
 ghost use Rattle.register_check.specs.Answers.{located};
 
 pub mod layout; // layout.rt: where the parts of a register lie
-pub mod refusals; // refusals.rt: its refusals, by name
-pub mod names; // names.rt: names compared
+pub mod refusing; // refusing.rt: its refusals
+pub mod contents; // contents.rt: the register that a buffer holds
 pub mod checking; // checking.rt: whether a buffer holds a register
-pub mod coordinates; // coordinates.rt: bits as millimetres, pegs as points
+pub mod coordinates; // coordinates.rt: bits as millimetres
 pub mod searching; // searching.rt: a peg searched by its name
 
-use checking::register_number;
-use coordinates::point_at;
-use layout::{COUNT_SIZE, PEG_SIZE, REGISTER_LENGTH};
-use searching::seek;
+use contents::Register;
+use layout::REGISTER_LENGTH;
 
 // How long a register's buffer must be.
 pub fn register_length() -> u32
@@ -29,6 +27,7 @@ pub fn register_length() -> u32
 
 // 0, and 1 with which peg of the register it is, from 0 on, and its place in millimetres; or zeros where there is none of that name. Or the
 // number of a refusal and zeros.
+// Stays: a number, and a flag beside a value, since it is the C struct guzbytor_register_find_answer (exports guzbytor_register_find and _nearest).
 #[repr(C)]
 #[derive(Clone, Copy)]
 pub struct RegisterFind {
@@ -53,11 +52,11 @@ impl RegisterFind {
     }
 
     // The peg in the slot of this index.
-    pub fn peg(register: &[u8], index: usize) -> RegisterFind
-        requires { (index < most_pegs) × (count_size + peg_size * index + peg_size ≤ length register.now) }
-        ensures { located result ≡ found_if index (some (peg_at register.now (count_size + peg_size * index)).place) }
+    pub fn peg(register: Register, index: usize) -> RegisterFind
+        requires { index < peg_count register.bytes.now }
+        ensures { located result ≡ found_if index (some (peg_at register.entry.bytes.now (slot_at index)).place) }
     {
-        let place = point_at(register, COUNT_SIZE + PEG_SIZE * index);
+        let place = register.place(index);
         RegisterFind {
             number: 0,
             found: 1,
@@ -72,13 +71,11 @@ impl RegisterFind {
 pub fn find(register: &[u8], name: &[u8]) -> RegisterFind
     ensures { located result ≡ find_on register.now name.now }
 {
-    let number = register_number(register);
-    if number != 0 {
-        return RegisterFind::none(number);
+    match Register::read(register) {
+        Err(refusal) => RegisterFind::none(u32::from(refusal)),
+        Ok(register) => match register.search(name) {
+            Ok(index) => RegisterFind::peg(register, index),
+            Err(_) => RegisterFind::none(0),
+        },
     }
-    let search = seek(register, name);
-    if !search.there {
-        return RegisterFind::none(0);
-    }
-    RegisterFind::peg(register, search.index)
 }

@@ -1,16 +1,16 @@
 -- The pegs of a region, as the code collects them.
-use Prim.Native.Nat.{ℕ, suc, ◌+◌, ◌*◌, ◌/◌, ◌≤◌, ◌<◌}
+use Prim.Native.Nat.{ℕ, suc, ◌+◌, ◌*◌, ◌≤◌, ◌<◌}
 use mathlib.Core.Path.{◌≡◌, refl, sym, ap, ap₂, subst, ◌∙◌}
 use mathlib.Core.Bool.{Bool, true, false}
 use mathlib.Core.List.{List, [], ◌∷◌, ◌++◌, append_assoc, append-nil}
 use native.Mathlib.Omega.{arith}
 use lib.ListN.{length, take, drop, length-append, take-append-drop}
 use lib.Seq.{take_all}
-use Rattle.base.specs.Bytes.{Bytes, bytes_of, number_at, part_at, joined, over}
+use Rattle.base.specs.Bytes.{bytes_of, part_at, joined, over}
 use Rattle.base.specs.Lists.{filter, Each}
 use Rattle.base.specs.Patched.{patched}
 use Rattle.base.proofs.AtLaws.{take_next}
-use Rattle.base.proofs.BytesLaws.{bytes_length, bytes_number, part_append, part_length}
+use Rattle.base.proofs.BytesLaws.{bytes_length, part_length}
 use Rattle.base.proofs.Filters.{filter_yes, filter_no, filter_append}
 use Rattle.base.proofs.ListLaws.{each_filter, each_first}
 use Rattle.base.proofs.Over.{over_front}
@@ -23,60 +23,13 @@ use Rattle.pegs.specs.Register.{most_pegs}
 use Rattle.pegs.specs.Image.{count_size, peg_size, register_length, peg_bytes, register_bytes, register_image, peg_at, peg_count, pegs_in}
 use Rattle.pegs.specs.Outcome.{register_number}
 use Rattle.pegs.specs.Regions.{point_of, peg_inside, pegs_inside}
-use Rattle.register_check.specs.Slots.{word_size}
+use Rattle.register_check.proofs.Held.{held_room}
 use Rattle.pegs.proofs.PegLaws.{PegRange, peg_length, pegs_length, slots, slots_append}
 use Rattle.pegs.proofs.ImageLaws.{Holds, number_zero, formed_range, slots_count, slot_at_lem, slot_occurs, slot_range, count_most}
-
--- A slot is so many words, and a byte.
-abbrev pub slot_words : ℕ
-slot_words = peg_size / word_size
 
 slots_next : (l : List Peg) (g : Peg) → slots (l ++ (g ∷ [])) ≡ slots l ++ peg_bytes g
 unfolding joined
 slots_next l g = slots_append l (g ∷ []) ∙ ap (λ (x : List ℕ). slots l ++ x) (append-nil (peg_bytes g))
-
--- ---- a slot, as the code copies it
-
--- m bytes from `from` on are copied; then w more, as a number.
-part_next : (w m : ℕ) (b c₀ c c₁ : List ℕ) (from to v : ℕ) → Bytes b → from + m + w ≤ length b → to ≤ length c₀ → c ≡ patched to (part_at m b from) c₀
-    → v ≡ number_at w b (from + m) → c₁ ≡ patched (to + m) (bytes_of w v) c → c₁ ≡ patched to (part_at (m + w) b from) c₀
-part_next w m b c₀ c c₁ from to v bytes h k e f g =
-    let long : m ≡ length (part_at m b from) = sym (part_length m b from (omega arith)) in
-    let more : bytes_of w v ≡ part_at w b (from + m) = ap (bytes_of w) f ∙ bytes_number w b (from + m) bytes h in
-    g
-    ∙ (λ i. patched (to + long i) (more i) (e i))
-    ∙ patched_next to (part_at m b from) (part_at w b (from + m)) c₀ k
-    ∙ ap (λ (x : List ℕ). patched to x c₀) (sym (part_append m w b from))
-
--- So many words.
-pub record Copied (b : List ℕ) (from : ℕ) (c₀ : List ℕ) (to : ℕ) (c : List ℕ) (j : ℕ) : Type 0 where
-  pub size : length c ≡ length c₀
-  pub few : j ≤ slot_words
-  pub bytes : c ≡ patched to (part_at (word_size * j) b from) c₀
-
-pub none_copied : (b c : List ℕ) (from to : ℕ) → Copied b from c to c 0
-unfolding part_at
-none_copied b c from to = record { size = refl; few = omega arith; bytes = sym (patched_none to c) }
-
-module _ (b c₀ c : List ℕ) (from to j : ℕ) (s : Copied b from c₀ to c j) (r : from + peg_size ≤ length b) (t : to + peg_size ≤ length c₀) (bytes : Bytes b) (v : ℕ) (c₁ : List ℕ) where
-  pub word_copied : j < slot_words → v ≡ number_at word_size b (from + word_size * j) → length c₁ ≡ length c → c₁ ≡ patched (to + word_size * j) (bytes_of word_size v) c
-      → Copied b from c₀ to c₁ (j + 1)
-  word_copied h e l f =
-      let next : word_size * j + word_size ≡ word_size * (j + 1) = omega arith in
-      record {
-        size = l ∙ s.size;
-        few = omega arith;
-        bytes =
-            part_next word_size (word_size * j) b c₀ c c₁ from to v bytes (omega arith) (omega arith) s.bytes e f
-            ∙ ap (λ (m : ℕ). patched to (part_at m b from) c₀) next;
-      }
-
-  pub slot_copied : slot_words ≤ j → v ≡ number_at 1 b (from + word_size * slot_words) → c₁ ≡ patched (to + word_size * slot_words) (bytes_of 1 v) c
-      → c₁ ≡ patched to (part_at peg_size b from) c₀
-  slot_copied h e f =
-      let all : j ≡ slot_words = omega (arith, s.few) in
-      part_next 1 (word_size * slot_words) b c₀ c c₁ from to v bytes (omega arith) (omega arith)
-      (s.bytes ∙ ap (λ (m : ℕ). patched to (part_at (word_size * m) b from) c₀) all) e f
 
 module _ (b : List ℕ) (a : Region) where
   -- Of the first k pegs those of the region.
@@ -153,20 +106,25 @@ module _ (b : List ℕ) (a : Region) where
 
       -- ---- it is
 
-      pub copy_room : count_size + peg_size * found + peg_size ≤ length c
-      copy_room = omega (arith, s.size, s.few, s.pegs, s.long)
+      copy_space : count_size + peg_size * found + peg_size ≤ length c
+      copy_space = omega (arith, s.size, s.few, s.pegs, s.long)
 
-      pub collected_next : (q : Point) (t : Bool) (c₁ y : List ℕ) → q ≡ point_of peg.place → t ≡ in_region a q → t ≡ true
-          → y ≡ part_at peg_size b from → c₁ ≡ patched (count_size + peg_size * found) y c → Collected c₀ c₁ (k + 1) (found + 1)
+      -- y is the slot, and m the number found, as the code has it.
+      pub copy_room : (y : List ℕ) (m : ℕ) → m ≡ found → y ≡ part_at peg_size b from → count_size + peg_size * m + length y ≤ length c
+      copy_room y m e f = omega (arith, copy_space, ap length f, part_length peg_size b from (held_room b ok k l))
+
+      pub collected_next : (q : Point) (t : Bool) (c₁ y : List ℕ) (m : ℕ) → m ≡ found → q ≡ point_of peg.place → t ≡ in_region a q → t ≡ true
+          → y ≡ part_at peg_size b from → c₁ ≡ patched (count_size + peg_size * m) y c → Collected c₀ c₁ (k + 1) (found + 1)
       unfolding peg_inside filter
-      collected_next q t c₁ y e f in-it i j =
+      collected_next q t c₁ y m is-m e f in-it i made =
+          let j : c₁ ≡ patched (count_size + peg_size * found) y c = made ∙ ap (λ (v : ℕ). patched (count_size + peg_size * v) y c) is-m in
           let inn : peg_inside a peg ≡ true = ap (in_region a) (sym e) ∙ sym f ∙ in-it in
           let grown : in_first (k + 1) ≡ in_first k ++ (peg ∷ []) = first_next ∙ ap (λ (x : List Peg). in_first k ++ x) (filter_yes (peg_inside a) peg [] inn) in
           let long : length (peg_bytes peg) ≡ peg_size = peg_length peg (slot_range b holds k l).most in
           let slot : y ≡ peg_bytes peg = i ∙ ap (λ (m : ℕ). part_at m b from) (sym long) ∙ (slot_occurs b holds k l).part in
           let behind : count_size + peg_size * found ≡ count_size + length (slots (in_first k)) = omega (arith, first_size_lem k, s.count) in
           record {
-            size = ap length j ∙ patched_length (count_size + peg_size * found) y c (omega (arith, copy_room, ap length slot, long)) ∙ s.size;
+            size = ap length j ∙ patched_length (count_size + peg_size * found) y c (omega (arith, copy_space, ap length slot, long)) ∙ s.size;
             most = omega arith;
             pegs = s.pegs;
             long = s.long;

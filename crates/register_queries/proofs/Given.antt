@@ -1,8 +1,8 @@
 -- The numbers that an exported function is given, and what the code has of them: their bits, read.
 use Prim.Native.Nat.{ℕ, ◌+◌, ◌*◌}
-use mathlib.Core.Path.{◌≡◌, sym, ap, ◌∙◌}
+use mathlib.Core.Path.{◌≡◌, ap, ◌∙◌}
 use mathlib.Core.List.{List}
-use mathlib.Core.Option.{some}
+use mathlib.Core.Option.{none, some}
 use lib.IntN.{ℤ}
 use mir.Syntax.{w32}
 use mir.Val.{SFits}
@@ -11,11 +11,11 @@ use Rattle.plane.specs.declared.Point.{Point}
 use Rattle.plane.specs.declared.Region.{Region}
 use Rattle.plane.proofs.Signed.{bits_of}
 use Rattle.pegs.specs.Image.{count_size, peg_size, peg_at, pegs_in}
-use Rattle.pegs.specs.Outcome.{register_number, changed, Found, found_if}
+use Rattle.pegs.specs.Outcome.{register_number, changed, Found, not_found, found_if}
 use Rattle.pegs.specs.Regions.{nearest}
 use Rattle.pegs.specs.Queries.{region_on, nearest_on}
 use Rattle.register_queries.specs.Arguments.{point, rectangle, disc}
-use Rattle.register_queries.proofs.Answers.{nearest-found}
+use Rattle.register_queries.proofs.Answers.{nearest_none, nearest_found}
 
 module _ (w s e n : ℤ) (fw : SFits w32 w) (fs : SFits w32 s) (fe : SFits w32 e) (fn : SFits w32 n) where
   rectangle_bits : rectangle (bits_of w) (bits_of s) (bits_of e) (bits_of n) ≡ rectangle w s e n
@@ -36,7 +36,10 @@ module _ (e n : ℤ) (fe : SFits w32 e) (fn : SFits w32 n) where
   pub nearest_point : (b : List ℕ) (r : Found) → r ≡ nearest_on b (point (bits_of e) (bits_of n)) → r ≡ nearest_on b (point e n)
   nearest_point b r h = h ∙ ap (nearest_on b) point_bits
 
-  pub nearest_given : (b : List ℕ) (k : ℕ) → k ≡ register_number b → k ≡ 0 → (i : ℕ) → nearest (point (bits_of e) (bits_of n)) (pegs_in b) ≡ some i
-      → (r : Found) → r ≡ found_if i (some (peg_at b (count_size + peg_size * i)).place) → r ≡ nearest_on b (point e n)
-  nearest_given b k ok z i h r f =
-      nearest-found b (point e n) k ok z i (ap (λ (p : Point). nearest p (pegs_in b)) (sym point_bits) ∙ h) r f
+  module _ (b : List ℕ) (r : Found) (c : List ℕ) (h : c ≡ b) (ok : register_number c ≡ 0) where
+    pub none_given : none ≡ nearest (point (bits_of e) (bits_of n)) (pegs_in c) → r ≡ not_found 0 → r ≡ nearest_on b (point e n)
+    none_given f g = nearest_none b (point e n) r c h ok (f ∙ ap (λ (p : Point). nearest p (pegs_in c)) point_bits) g
+
+    pub nearest_given : (i : ℕ) → some i ≡ nearest (point (bits_of e) (bits_of n)) (pegs_in c)
+        → r ≡ found_if i (some (peg_at c (count_size + peg_size * i)).place) → r ≡ nearest_on b (point e n)
+    nearest_given i f g = nearest_found b (point e n) r c h ok i (f ∙ ap (λ (p : Point). nearest p (pegs_in c)) point_bits) g

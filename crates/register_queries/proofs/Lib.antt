@@ -1,4 +1,3 @@
-pub mod Slots
 pub mod Collected
 pub mod Along
 pub mod Answers

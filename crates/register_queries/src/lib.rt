@@ -4,6 +4,7 @@
 ghost use Rattle.std.specs.Prelude.{◌≡◌};
 ghost use Rattle.pegs.specs.Queries.{nearest_on};
 ghost use Rattle.register_check.specs.Answers.{located};
+ghost use Rattle.register_check.specs.Numbers.{answer_number};
 ghost use Rattle.register_queries.specs.Arguments.{rectangle, disc, point, AnswersRegion};
 
 pub mod collecting; // collecting.rt: the pegs of a region
@@ -11,13 +12,14 @@ pub mod answering; // answering.rt: refusals, and the answer of a region
 pub mod nearest; // nearest.rt: the nearest peg
 
 use answering::answer_region;
-use nearest::nearest_index;
-use octets::numbers::num16;
+use nearest::nearest;
 use plane::{Point, Rectangle, Region};
 use register_check::RegisterFind;
-use register_check::checking::register_number;
+use register_check::contents::Register;
+use register_check::refusing::RegisterRefusal;
 
 // The pegs inside a rectangle, edges included: 7, 8, then 12.
+// Stays: four numbers in place of a `Rectangle`, as C gives them to guzbytor_register_rectangle.
 pub fn in_rectangle(
     register: &[u8],
     west: i32,
@@ -25,8 +27,8 @@ pub fn in_rectangle(
     east: i32,
     north: i32,
     answer: &mut [u8],
-) -> u32
-    ensures { AnswersRegion result (rectangle west south east north) register.now answer }
+) -> Result<(), RegisterRefusal>
+    ensures { AnswersRegion (answer_number result) (rectangle west south east north) register.now answer }
 {
     let sides = Rectangle {
         west,
@@ -44,8 +46,8 @@ pub fn in_radius(
     northing: i32,
     radius: u32,
     answer: &mut [u8],
-) -> u32
-    ensures { AnswersRegion result (disc easting northing radius) register.now answer }
+) -> Result<(), RegisterRefusal>
+    ensures { AnswersRegion (answer_number result) (disc easting northing radius) register.now answer }
 {
     let centre = Point { easting, northing };
     answer_region(register, Region::Within { centre, radius }, answer)
@@ -55,14 +57,11 @@ pub fn in_radius(
 pub fn nearest_on(register: &[u8], easting: i32, northing: i32) -> RegisterFind
     ensures { located result ≡ nearest_on register.now (point easting northing) }
 {
-    let number = register_number(register);
-    if number != 0 {
-        return RegisterFind::none(number);
+    match Register::read(register) {
+        Err(refusal) => RegisterFind::none(u32::from(refusal)),
+        Ok(register) => match nearest(register, Point { easting, northing }) {
+            Some(index) => RegisterFind::peg(register, index),
+            None => RegisterFind::none(0),
+        },
     }
-    let count = num16(register, 0) as usize;
-    if count < 1 {
-        return RegisterFind::none(0);
-    }
-    let index = nearest_index(register, count, Point { easting, northing });
-    RegisterFind::peg(register, index)
 }

@@ -11,9 +11,12 @@ use Rattle.base.specs.Tests.{◌and◌, ◌=?◌}
 use Rattle.base.proofs.TestLaws.{and_yes, and_no, eq_yes, eq_no, pick_eq, pick_ne}
 use Rattle.base.proofs.Branches.{or_yes, or_no}
 use Rattle.image.specs.Decode.{greens_in}
-use Rattle.burst.specs.declared.slices.Next.{Next}
-use Rattle.burst.specs.declared.slices.Next.TheVariants.{Event, Stop}
-use Rattle.burst.specs.Burst.{next_of, EndsIn, stop_number}
+use borrow.Author.Tests.{ne_eqb}
+use Rattle.refusals.specs.declared.Refusal.{Refusal}
+use Rattle.refusals.specs.Numbers.{refusal_number}
+use Rattle.register_check.proofs.Found.{refusal_some}
+use Rattle.burst.specs.Next.{Event, Stop}
+use Rattle.burst.specs.Burst.{next_of, EndsIn}
 use Rattle.register_runs.specs.Joint.{Joint, unjoined, joint_number, joint_on}
 use Rattle.register_step.specs.declared.RegisterAnswer.{RegisterAnswer}
 use Rattle.register_step.specs.declared.RegisterBurst.{RegisterBurst}
@@ -24,30 +27,30 @@ use Rattle.register_step.proofs.BurstLaws.{past, past_none, past_past, from_stop
 
 -- ---- the first event
 
-module _ (f : Bool) (b r e o : List ℕ) (x : Next) (is_next_lem : x ≡ next_of f e) where
-  pub first_stops : (i k : ℕ) (v : RegisterBurst) → x ≡ Stop i → k ≡ stop_number x → v ≡ refused_burst k → left v b r o ≡ burst_from 1 f b r e o
-  unfolding stop_number left stopped
+module _ (f : Bool) (b r e o : List ℕ) where
+  pub first_stops : (i k : ℕ) (v : RegisterBurst) → Stop i ≡ next_of f e → k ≡ i → v ≡ refused_burst k → left v b r o ≡ burst_from 1 f b r e o
+  unfolding left stopped
   first_stops i k v h q t =
       ap (λ (y : RegisterBurst). left y b r o) t
-      ∙ ap (λ (y : ℕ). stopped y b r o) (q ∙ ap stop_number h)
-      ∙ sym (from_stop f b r e o i 0 (sym is_next_lem ∙ h))
+      ∙ ap (λ (y : ℕ). stopped y b r o) q
+      ∙ sym (from_stop f b r e o i 0 (sym h))
 
-  module _ (m : ℕ) (h : x ≡ Event m) where
-    pub first_size_lem : EndsIn x e → length (take m e) ≡ m
+  module _ (m : ℕ) (h : Event m ≡ next_of f e) where
+    pub first_size_lem : EndsIn (Event m) e → length (take m e) ≡ m
     unfolding EndsIn
-    first_size_lem fits = length-take-le m e (subst (λ (y : Next). EndsIn y e) h fits).1
+    first_size_lem fits = length-take-le m e fits.1
 
     module _ (y : RegisterAnswer) (b₁ r₁ o₁ : List ℕ) (is-joint : joined y b₁ r₁ o₁ ≡ joint_on b r (take m e) o) where
-      pub first_refused : joint_number b r o ≡ 0 → (v : RegisterBurst) → (y.number ≡ 0 → ⊥) → v ≡ refused_burst y.number
+      pub first_refused : joint_number b r o ≡ 0 → (v : RegisterBurst) (k : ℕ) → k ≡ y.number → (y.number ≡ 0 → ⊥) → v ≡ refused_burst k
           → left v b₁ r₁ o₁ ≡ burst_from 1 f b r e o
       unfolding joined unjoined left stopped
-      first_refused z v n t =
+      first_refused z v i is-i n t =
           let number : (joint_on b r (take m e) o).number ≡ y.number = sym (ap (λ (w : Joint). w.number) is-joint) in
           let off : (joint_on b r (take m e) o).number ≡ 0 → ⊥ = λ q. n (sym number ∙ q) in
           let kept : joined y b₁ r₁ o₁ ≡ unjoined (joint_on b r (take m e) o).number b r o = is-joint ∙ refused_whole b r o z (take m e) off in
-          (λ i. left (t i) (kept i).state (kept i).register (kept i).out)
-          ∙ ap (λ (k : ℕ). stopped k b r o) (sym number)
-          ∙ sym (from_refused f b r e o m (sym is_next_lem ∙ h) off 0)
+          (λ j. left (t j) (kept j).state (kept j).register (kept j).out)
+          ∙ ap (λ (k : ℕ). stopped k b r o) (is-i ∙ sym number)
+          ∙ sym (from_refused f b r e o m (sym h) off 0)
 
       pub first_taken : y.number ≡ 0
           → left (record { number = 0; store = y.store; sent = y.sent; greened = y.greened; refused = y.refused; events = 1; bytes = m }) b₁ r₁ o₁
@@ -55,7 +58,7 @@ module _ (f : Bool) (b r e o : List ℕ) (x : Next) (is_next_lem : x ≡ next_of
       unfolding joined left ended
       first_taken z =
           ap (ended m) is-joint
-          ∙ sym (from_one f b r e o m (sym is_next_lem ∙ h) (sym (ap (λ (w : Joint). w.number) is-joint) ∙ z))
+          ∙ sym (from_one f b r e o m (sym h) (sym (ap (λ (w : Joint). w.number) is-joint) ∙ z))
 
 -- Behind others: n events of `at` bytes.
 pub next_is : (n at : ℕ) (b r e o : List ℕ) (x : JointBurst) → at ≤ length e → x ≡ burst_from 1 (eqb n 0) b r (take (length e - at) (drop at e)) o
@@ -79,8 +82,8 @@ module _ (x : RegisterBurst) (n : x.events ≡ 0 → ⊥) where
   unfolding ◌=?◌
   last_sent t h e = silent_not t (e ∙ ap not (and_yes _ (x.store =? 0) _ (eq_yes x.store 0 h) refl))
 
-  pub last_stored : (x.store ≡ 0 → ⊥) → true ≡ is_last x
-  last_stored h = silent_not true (ap not (and_no (x.store =? 0) (x.sent =? 0) (eq_no x.store 0 h)))
+  pub last_stored : (x.store ≡ 0 → ⊥) → not (eqb x.store 0) ≡ is_last x
+  last_stored h = ap not (ne_eqb x.store 0 h) ∙ silent_not true (ap not (and_no (x.store =? 0) (x.sent =? 0) (eq_no x.store 0 h)))
 
 -- ---- the loop
 
@@ -211,9 +214,9 @@ module _ (b₀ r₀ e o₀ b r o : List ℕ) (all : RegisterBurst) (a : Along b�
 
 -- ---- 7 and 8
 
-pub burst_refused : (b r e o : List ℕ) (k : ℕ) (v : RegisterBurst) → k ≡ joint_number b r o → (k ≡ 0 → ⊥) → v ≡ refused_burst k
-    → left v b r o ≡ joint_burst_on b r e o
+pub burst_refused : (b r e o : List ℕ) (f : Refusal) (k : ℕ) (v : RegisterBurst) → k ≡ refusal_number f → refusal_number f ≡ joint_number b r o
+    → v ≡ refused_burst k → left v b r o ≡ joint_burst_on b r e o
 unfolding joint_burst_on left stopped
-burst_refused b r e o k v is-k n t =
+burst_refused b r e o f k v is-f is-k t =
     ap (λ (y : RegisterBurst). left y b r o) t
-    ∙ pick_ne (joint_number b r o) 0 (stopped k b r o) _ _ (λ z. n (is-k ∙ z)) (ap (λ (i : ℕ). stopped i b r o) is-k)
+    ∙ pick_ne (joint_number b r o) 0 (stopped k b r o) _ _ (λ z. refusal_some f (is-k ∙ z)) (ap (λ (i : ℕ). stopped i b r o) (is-f ∙ is-k))

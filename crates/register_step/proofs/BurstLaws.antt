@@ -11,8 +11,8 @@ use Rattle.base.specs.Tests.{◌and◌, ◌or◌, ◌=?◌}
 use Rattle.base.proofs.TestLaws.{Known, known, holds, fails, not_both, and_holds, eq_holds, eq_fails, pick_yes, pick_no, pick_eq, pick_ne}
 use Rattle.base.proofs.Branches.{or_yes, or_no}
 use Rattle.image.specs.Decode.{greens_in}
-use Rattle.burst.specs.declared.slices.Next.{Next}
-use Rattle.burst.specs.declared.slices.Next.TheVariants.{Event, Stop}
+use Rattle.burst.specs.Next.{Next}
+use Rattle.burst.specs.Next.{Event, Stop}
 use Rattle.burst.specs.Burst.{next_of}
 use Rattle.burst.proofs.NextLaws.{whole_event}
 use Rattle.burst.proofs.BurstLaws.{by_stop, by_event}

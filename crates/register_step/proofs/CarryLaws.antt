@@ -1,11 +1,16 @@
 -- Green actions applied one after another, as the code does it.
 use Prim.Native.Nat.{ℕ, suc, ◌+◌, ◌*◌, ◌-◌, ◌^◌, ◌≤◌, ◌<◌}
-use mathlib.Core.Path.{◌≡◌, refl, sym, ap, ◌∙◌}
+use mathlib.Core.Path.{◌≡◌, refl, sym, ap, subst, ◌∙◌}
 use mathlib.Core.Bool.{Bool, true, false}
 use mathlib.Core.List.{List, [], ◌∷◌, ◌++◌, append-nil, append_assoc, map-append}
 use native.Mathlib.Omega.{arith}
 use lib.ListN.{length, take, drop, length-append}
 use lib.Seq.{drop-length}
+use Rattle.std.specs.Prelude.{⊤, Result, Ok, Err, is_err}
+use Rattle.std.specs.Int.{from_bool}
+use Rattle.register_check.specs.declared.refusing.RegisterRefusal.{RegisterRefusal}
+use Rattle.register_check.specs.Numbers.{refused_number, answer_number}
+use Rattle.register_check.proofs.Found.{refused_some}
 use Rattle.base.specs.Bytes.{Bytes, number_at, part_at}
 use Rattle.base.specs.Tests.{◌=?◌, pick}
 use Rattle.base.proofs.BytesLaws.{bytes_part}
@@ -57,17 +62,24 @@ module _ (b r : List ℕ) (p m k : ℕ) (r₁ : List ℕ) (is_m : m ≡ number_a
   unfolding changed
   left_is = ap (λ (c : Changed). c.register) done
 
-  pub one_taken : k ≡ 0 → AppliedOne (action_at b p) r 0 r₁
+  one_taken : k ≡ 0 → AppliedOne (action_at b p) r 0 r₁
   one_taken z = record {
     refused_is = sym (one_refusal x (pegs_in r) ∙ sym (pick_eq (payload_number x (pegs_in r)) 0 0 _ _ (sym number_is ∙ z) refl));
     register_is = left_is;
   }
 
-  pub one_refused : (k ≡ 0 → ⊥) → AppliedOne (action_at b p) r 1 r₁
+  one_refused : (k ≡ 0 → ⊥) → AppliedOne (action_at b p) r 1 r₁
   one_refused n = record {
     refused_is = sym (one_refusal x (pegs_in r) ∙ sym (pick_ne (payload_number x (pegs_in r)) 0 1 _ _ (λ z. n (number_is ∙ z)) refl));
     register_is = left_is;
   }
+
+pub one_applied : (b r : List ℕ) (p m : ℕ) (r₁ : List ℕ) → m ≡ number_at 1 b (p + action_payload_at) → (x : Result ⊤ RegisterRefusal)
+    → changed (answer_number x) r₁ ≡ applied (take (p + action_head_size + m - (p + action_head_size)) (drop (p + action_head_size) b)) (pegs_in r) r
+    → (t : Bool) → t ≡ is_err x → AppliedOne (action_at b p) r (from_bool t) r₁
+one_applied b r p m r₁ h (Ok u) e t f = subst (λ (v : Bool). AppliedOne (action_at b p) r (from_bool v) r₁) (sym f) (one_taken b r p m 0 r₁ h e refl)
+one_applied b r p m r₁ h (Err g) e t f =
+    subst (λ (v : Bool). AppliedOne (action_at b p) r (from_bool v) r₁) (sym f) (one_refused b r p m (refused_number g) r₁ h e (refused_some g))
 
 -- ---- the loop
 
@@ -171,12 +183,12 @@ module _ (b r₀ : List ℕ) (from : ℕ) (r : List ℕ) (k refused : ℕ) (read
     payload_bytes_lem y = bytes_part (number_at 1 b (s + action_payload_at)) b (s + action_payload_at + 1) y
 
     -- Few enough for 32 bits.
-    pub one_more_lem : green ≤ most_length_limit → (w : ℕ) (r₁ : List ℕ) → AppliedOne (action_at b s) r w r₁ → refused + w < 2 ^ 32
-    one_more_lem f w r₁ o = omega (arith, o.refused_is, refusals_few (action_at b s).payload (pegs_in r), a.few, a.count)
+    pub one_more_lem : green ≤ most_length_limit → (w n : ℕ) (r₁ : List ℕ) → AppliedOne (action_at b s) r w r₁ → n ≡ w → refused + n < 2 ^ 32
+    one_more_lem f w n r₁ o is-n = omega (arith, is-n, o.refused_is, refusals_few (action_at b s).payload (pegs_in r), a.few, a.count)
 
-    pub along_on : (w : ℕ) (r₁ : List ℕ) → Bytes b → length r₁ ≡ length r → AppliedOne (action_at b s) r w r₁ → Along b r₀ from r₁ (k + 1) (refused + w)
+    pub along_on : (w n : ℕ) (r₁ : List ℕ) → Bytes b → length r₁ ≡ length r → AppliedOne (action_at b s) r w r₁ → n ≡ w → Along b r₀ from r₁ (k + 1) (refused + n)
     unfolding carried
-    along_on w r₁ y same o =
+    along_on w n r₁ y same o is-n =
         let x : Action = action_at b s in
         let all : payloads (a.put ++ (x ∷ [])) ≡ payloads a.put ++ (x.payload ∷ []) = payloads_next a.put x in
         let long : length (a.put ++ (x ∷ [])) ≡ length a.put + 1 = length-append a.put (x ∷ []) in
@@ -196,8 +208,8 @@ module _ (b r₀ : List ℕ) (from : ℕ) (r : List ℕ) (k refused : ℕ) (read
               ∙ ap (λ (l : List Action). a.put ++ l) next_is
               ∙ sym (append_assoc a.put (x ∷ []) (drop (suc k) (greens_in b)))
               ∙ ap (λ (n : ℕ). (a.put ++ (x ∷ [])) ++ drop n (greens_in b)) next;
-          counted = omega (arith, a.counted, o.refused_is, sum);
-          few = omega (arith, long, a.few, o.refused_is, refusals_few x.payload (pegs_in r));
+          counted = omega (arith, is-n, a.counted, o.refused_is, sum);
+          few = omega (arith, is-n, long, a.few, o.refused_is, refusals_few x.payload (pegs_in r));
           register =
               o.register_is
               ∙ ap (λ (u : List ℕ). (applied x.payload (pegs_in u) u).register) a.register

@@ -25,6 +25,9 @@ use Rattle.burst.proofs.KeptLaws.{step_kept}
 use Rattle.pegs.specs.Image.{register_length, register_reads}
 use Rattle.pegs.specs.Outcome.{register_short, register_number}
 use Rattle.pegs.proofs.Advance.{applied_all_lem}
+use Rattle.refusals.specs.declared.Refusal.{Refusal}
+use Rattle.refusals.specs.Numbers.{refusal_number}
+use Rattle.register_check.proofs.Found.{refusal_some}
 use Rattle.register_runs.specs.Joint.{Joint, step_part, unjoined, payloads, carried, joint_of, joint_number, joint_on}
 use Rattle.register_runs.proofs.JointLaws.{joint_zero, zero_joint, joint_step, joint_read}
 use Rattle.register_runs.proofs.Holding.{gained_bytes}
@@ -54,7 +57,7 @@ module _ (b r o : List ℕ) where
     unfolding joint_number
     by_register = ap (λ (t : Bool). pick t 7 (pick (reads b and register_reads r) 0 8)) long_either
 
-    pub joint_state : (k ≡ 0 → ⊥) → k ≡ joint_number b r o
+    joint_state : (k ≡ 0 → ⊥) → k ≡ joint_number b r o
     joint_state n = is-k ∙ go (known (too_short b o)) (known (reads b))
       where
         go : Known (too_short b o) → Known (reads b) → state_number b o ≡ joint_number b r o
@@ -63,6 +66,9 @@ module _ (b r o : List ℕ) where
         go (fails t) (fails u) =
             number_unread b o t u
             ∙ sym (by_register ∙ sym (pick_no (too_short b o) 8 _ _ t (pick_no (reads b and register_reads r) 8 _ _ (sym (and_no (reads b) (register_reads r) u)) refl)))
+
+    pub joint_state_refused : (f : Refusal) → refusal_number f ≡ k → refusal_number f ≡ joint_number b r o
+    joint_state_refused f e = e ∙ joint_state (λ z. refusal_some f (e ∙ z))
 
     module _ (z : k ≡ 0) (t : Bool) (is-t : t ≡ register_reads r) where
       by_reads : joint_number b r o ≡ pick t 0 8

@@ -14,7 +14,7 @@ use Rattle.image.specs.Decode.{decoded}
 use Rattle.image.specs.Outcome.{image_after}
 use Rattle.daemons.specs.Buffers.{source_in}
 use Rattle.daemons.proofs.BufferLaws.{source_running}
-use Rattle.burst.specs.declared.slices.Next.TheVariants.{Event, Stop}
+use Rattle.burst.specs.Next.{Event, Stop}
 use Rattle.burst.specs.Burst as engine
 use Rattle.burst.specs.Burst.{next_of}
 use Rattle.burst.proofs.KeptLaws.{over_none}

@@ -1,6 +1,7 @@
 -- The joint step, as the code makes it.
 use Prim.Native.Nat.{ℕ, ◌+◌, ◌^◌, ◌≤◌, ◌<◌}
 use mathlib.Core.Path.{◌≡◌, refl, sym, ap, subst, ◌∙◌}
+use mathlib.Core.Bool.{Bool, true, false}
 use mathlib.Core.List.{List, [], ◌++◌, map-append}
 use native.Mathlib.Omega.{arith}
 use lib.ListN.{length, drop, length-append, length-drop}
@@ -25,8 +26,12 @@ use Rattle.pegs.specs.Register.{advance, refusals}
 use Rattle.pegs.specs.Image.{pegs_in}
 use Rattle.pegs.specs.Outcome.{register_number, applied_all}
 use Rattle.pegs.proofs.Advance.{refusals_append, applied_all_append}
-use Rattle.step.specs.declared.Act.{Act}
-use Rattle.step.specs.Answers.{answered}
+use Rattle.step.specs.declared.Answer.{Answer}
+use Rattle.step.specs.Answers.{answered, store_word}
+use Rattle.std.specs.Int.{from_bool}
+use Rattle.refusals.specs.declared.Refusal.{Refusal}
+use Rattle.refusals.specs.Numbers.{refusal_number}
+use Rattle.register_check.proofs.Found.{refusal_some}
 use Rattle.step.specs.Stages.{unraised_step, raises}
 use Rattle.step.specs.Meeting.{met}
 use Rattle.step.proofs.RaiseLaws.{raise_ready, step_raised}
@@ -42,12 +47,15 @@ use Rattle.register_step.proofs.EventLaws.{refusals_below, payloads_count}
 
 -- ---- buffers whose number is not 0
 
-pub answer_refused : (b r e o : List ℕ) (k : ℕ) (a : RegisterAnswer) → k ≡ joint_number b r o → (k ≡ 0 → ⊥) → a ≡ refused_with k
-    → joined a b r o ≡ joint_on b r e o
+pub answer_refused : (b r e o : List ℕ) (f : Refusal) → refusal_number f ≡ joint_number b r o → joined (refused_with (refusal_number f)) b r o ≡ joint_on b r e o
 unfolding joint_on joined unjoined
-answer_refused b r e o k a q n h =
-    ap (λ (x : RegisterAnswer). joined x b r o) h
-    ∙ pick_ne (joint_number b r o) 0 (unjoined k b r o) _ _ (λ z. n (q ∙ z)) (ap (λ (j : ℕ). unjoined j b r o) q)
+answer_refused b r e o f q =
+    pick_ne (joint_number b r o) 0 (unjoined (refusal_number f) b r o) _ _ (λ z. refusal_some f (q ∙ z)) (ap (λ (j : ℕ). unjoined j b r o) q)
+
+-- As the code has a store word.
+pub store_told : (t : Bool) → from_bool t ≡ store_word t
+store_told true = refl
+store_told false = refl
 
 -- Nothing carried on.
 carried_none : (r : List ℕ) → carried [] r ≡ r
@@ -131,22 +139,22 @@ module _ (b r o : List ℕ) (ready : joint_number b r o ≡ 0) where
     pub event_number : state_number b₁ o ≡ 0
     event_number = there_number s e b held b₁ here.state o (zero_ready b o state_zero).room
 
-    module _ (a : Act) (b₂ o₂ : List ℕ)
-        (y : (t : Server) → Holds t b₁ → (answered a.answer b₂ o₂ ≡ unraised_step t e b₁ o) × (a.raises ≡ raises t e)) where
-      acted : answered a.answer b₂ o₂ ≡ unraised_step m e b₁ o
+    module _ (a : Answer) (g : Bool) (b₂ o₂ : List ℕ)
+        (y : (t : Server) → Holds t b₁ → (answered a b₂ o₂ ≡ unraised_step t e b₁ o) × (g ≡ raises t e)) where
+      acted : answered a b₂ o₂ ≡ unraised_step m e b₁ o
       acted = (y m held_met).0
 
       pub event_raises : HoldsSome b₂
-      event_raises = raise_ready b₁ e o event_number a b₂ o₂ y
+      event_raises = raise_ready b₁ e o event_number a g b₂ o₂ y
 
       -- The event is refused.
-      pub event_refused : (x : RegisterAnswer) → (a.answer.number ≡ 0 → ⊥) → x ≡ refused_with a.answer.number → joined x b₂ r₁ o₂ ≡ joint_on b r e o
+      pub event_refused : (x : RegisterAnswer) → (a.number ≡ 0 → ⊥) → x ≡ refused_with a.number → joined x b₂ r₁ o₂ ≡ joint_on b r e o
       unfolding joined answered refusal greened joint_of unjoined
       event_refused x n h =
-          let number : a.answer.number ≡ (unraised_step m e b₁ o).number = ap (λ (v : Result). v.number) acted in
+          let number : a.number ≡ (unraised_step m e b₁ o).number = ap (λ (v : Result). v.number) acted in
           let f = first_refuses s e b held b₁ here.state o (λ q. n (number ∙ q)) in
           let j : ℕ = f.0 in
-          let told : answered a.answer b₂ o₂ ≡ refusal j b₁ o = acted ∙ f.1 in
+          let told : answered a b₂ o₂ ≡ refusal j b₁ o = acted ∙ f.1 in
           let unmet = refused_unmet s e b held j f.2 in
           let back : b₁ ≡ b = here.state ∙ ap (λ (t : Server). image t b) unmet.0 ∙ held.written in
           let none : greened s m ≡ [] = ap (greened s) unmet.0 ∙ drop-length s.log.green in
@@ -205,19 +213,19 @@ module _ (b r o : List ℕ) (ready : joint_number b r o ≡ 0) where
           refused_few =
               omega (arith, greened_few, counted_few first g₁ r r₁ here.carried, counted_few rest (drop from (greens_in b₂)) r₁ r₂ cr.0)
 
-          pub event_done : (b₃ : List ℕ) → a.answer.number ≡ 0 → ((t : Server) → Holds t b₂ → b₃ ≡ image (pick a.raises (whitened t) t) b₂)
+          pub event_done : (b₃ : List ℕ) (word : ℕ) → word ≡ a.store → a.number ≡ 0 → ((t : Server) → Holds t b₂ → b₃ ≡ image (pick g (whitened t) t) b₂)
               → joined (record {
                 number = 0;
-                store = a.answer.store;
-                sent = a.answer.sent;
+                store = word;
+                sent = a.sent;
                 greened = first.greened + rest.greened;
                 refused = first.refused + rest.refused;
               }) b₃ r₂ o₂ ≡ joint_on b r e o
           unfolding joined answered
-          event_done b₃ zero l =
+          event_done b₃ word is-word zero l =
               let x : Joint = joint_on b r e o in
-              let stepped : answered a.answer b₃ o₂ ≡ step_part x
-              = step_raised b₁ e o event_number a b₂ o₂ y b₃ l
+              let stepped : answered a b₃ o₂ ≡ step_part x
+              = step_raised b₁ e o event_number a g b₂ o₂ y b₃ l
               ∙ step_read b₁ e o (decoded b₁) (zero_read b₁ o event_number).0 (zero_ready b₁ o event_number).read
               ∙ ap (λ (t : Server). result_of (image_after t e) (step t e) b₁ o) (holds_decoded m b₁ held_met)
               ∙ same_step s e b held b₁ here.state o
@@ -237,7 +245,7 @@ module _ (b r o : List ℕ) (ready : joint_number b r o ≡ 0) where
               ∙ ap (λ (l : List Action). carried l r) split ∙ sym c.2 ∙ ap (λ (v : Joint). v.register) whole in
               λ i. record {
                 number = (sym zero ∙ ap (λ (v : Result). v.number) stepped) i;
-                store = (stepped i).store;
+                store = (is-word ∙ ap (λ (v : Result). v.store) stepped) i;
                 sent = (stepped i).sent;
                 greened = greens i;
                 refused = refusals_are i;

@@ -1,6 +1,8 @@
 -- What the code of the joint step answers.
-use Rattle.std.specs.Prelude.{ℕ, ◌≡◌, List}
+use Rattle.std.specs.Prelude.{ℕ, ◌≡◌, List, Result, Ok, Err}
 use Rattle.base.specs.Lent.{Lent}
+use Rattle.refusals.specs.declared.Refusal.{Refusal}
+use Rattle.refusals.specs.Numbers.{refusal_number}
 use Rattle.register_runs.specs.Joint.{Joint, joint_number, joint_on}
 use Rattle.register_step.specs.declared.RegisterAnswer.{RegisterAnswer}
 use Rattle.std.specs.Borrow.{MutBor}
@@ -21,6 +23,11 @@ joined a b r o = record {
 -- "no refusal changes anything lent"
 abbrev pub refused_with : (number : ℕ) → RegisterAnswer
 refused_with k = record { number = k; store = 0; sent = 0; greened = 0; refused = 0 }
+
+-- What C is answered where the event may be refused.
+abbrev pub answer_of : Result RegisterAnswer Refusal → RegisterAnswer
+answer_of (Ok a) = a
+answer_of (Err r) = refused_with (refusal_number r)
 
 -- The answer to the event and the lent buffers afterwards are the joint step's.
 abbrev pub AnswersJointly : RegisterAnswer → (state register : Lent) → (event : List ℕ) → (out : Lent) → Type 0

@@ -1,5 +1,6 @@
 // Green actions of a state applied to the register.
 ghost use Rattle.std.specs.Prelude.{◌≡◌, ◌+◌, ◌≤◌, length, drop};
+ghost use Rattle.std.specs.Int.{from_bool};
 ghost use Rattle.base.specs.Bytes.{number_at};
 ghost use Rattle.format.specs.Places.{action_payload_at, action_head_size};
 ghost use Rattle.format.specs.Read.{action_at};
@@ -22,19 +23,16 @@ pub struct Carried {
     pub refused: u32,
 }
 
-// The payload of the action in the slot from `slot` on is applied: 1 where it is refused, else 0.
-fn apply_slot(state: &[u8], slot: usize, register: &mut [u8]) -> u32
+// The payload of the action in the slot from `slot` on is applied: whether it is refused.
+fn is_refused(state: &[u8], slot: usize, register: &mut [u8]) -> bool
     requires action_payload_at_in_bounds { slot + action_head_size + number_at 1 state.now (slot + action_payload_at) ≤ length state.now }
     requires register_value { register_number register.old ≡ 0 }
-    ensures { AppliedOne (action_at state.now slot) register.old result register.new }
+    ensures { AppliedOne (action_at state.now slot) register.old (from_bool result) register.new }
 {
-    let m = num8(state, slot + ActionHead::PAYLOAD) as usize;
+    let m = usize::from(num8(state, slot + ActionHead::PAYLOAD));
     let from = slot + ActionHead::SIZE;
     let end = from + m;
-    if apply(register, &state[from..end]) == 0 {
-        return 0;
-    }
-    1
+    apply(register, &state[from..end]).is_err()
 }
 
 // Those behind the first `from` of the green history, in their order: none of them is white.
@@ -45,12 +43,10 @@ pub fn carry(state: &[u8], register: &mut [u8], from: u32) -> Carried
 {
     let green = green_length(state);
     let queue = place_of(state, THE_QUEUE);
-    let mut k = from;
-    let mut refused: u32 = 0;
-    while k < green {
+    let mut refused = 0;
+    for k in from..green {
         let slot = queue + State::SLOT * green_slot(state, k);
-        refused += apply_slot(state, slot, register);
-        k += 1;
+        refused += u32::from(is_refused(state, slot, register));
     }
     Carried {
         greened: green - from,

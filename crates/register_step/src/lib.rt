@@ -1,25 +1,27 @@
 // Events at one server that keeps a register, over the lent buffers: the engine's step, and every action that it turns green applied in order.
 #![tactic(auto)]
 
-ghost use Rattle.std.specs.Prelude.{◌≡◌, ◌≤◌, length};
+ghost use Rattle.std.specs.Prelude.{◌≡◌, ◌≤◌, length, IfOk};
 ghost use Rattle.register_runs.specs.Joint.{joint_number};
-ghost use Rattle.register_step.specs.Answers.{refused_with, AnswersJointly, AllRead};
+ghost use Rattle.refusals.specs.Numbers.{outcome_number};
+ghost use Rattle.register_step.specs.Answers.{refused_with, answer_of, AnswersJointly, AllRead};
 ghost use Rattle.register_step.specs.Burst.{refused_burst, CanFollow, followed, is_last, AnswersFirst, AnswersNext, AnswersAll};
 ghost use Rattle.register_step.specs.Claim.{JointBurstsFollow, JointBurstsAgree};
 
 pub mod carrying; // carrying.rt: green actions applied to the register
 
-use refusals::{BAD_STATE, SHORT_BUFFER};
-use burst::slices::{Next, next_in, stop_number};
+use refusals::Refusal;
+use burst::slices::next_in;
 use carrying::{carry, carry_met};
 use queue::history::green_length;
 use register_check::checking::register_reads;
 use register_check::layout::REGISTER_LENGTH;
-use state_check::state_number;
+use state_check::check_buffers;
 use step::taking::{act, raise};
 
 // The number returned, the store word (1: state and register are stored first, as one), how many bytes of records the outgoing buffer begins with,
 // how many actions turned green, and how many operations of them were refused.
+// Stays: numbers in place of a Result and a flag, since it is the C struct of guzbytor_register_step.
 #[repr(C)]
 #[derive(Clone, Copy)]
 pub struct RegisterAnswer {
@@ -45,45 +47,56 @@ impl RegisterAnswer {
     }
 }
 
-// 7 where one of the buffers is too short, then 8 where one does not read, else 0.
-fn joint_number(state: &[u8], register: &[u8], out: &[u8]) -> u32
-    ensures { result ≡ joint_number state.now register.now out.now }
+// 7 where one of the buffers is too short, then 8 where one does not read.
+fn check_joint(state: &[u8], register: &[u8], out: &[u8]) -> Result<(), Refusal>
+    ensures { outcome_number result ≡ joint_number state.now register.now out.now }
 {
     if register.len() < REGISTER_LENGTH {
-        return SHORT_BUFFER;
+        return Err(Refusal::ShortBuffer);
     }
-    let number = state_number(state, out);
-    if number != 0 {
-        return number;
-    }
+    check_buffers(state, out)?;
     if register_reads(register) {
-        0
+        Ok(())
     } else {
-        BAD_STATE
+        Err(Refusal::BadState)
     }
 }
 
 // Over buffers whose number is 0: the engine's step, and what it turns green before that can be white.
-fn take_event(state: &mut [u8], register: &mut [u8], event: &[u8], out: &mut [u8]) -> RegisterAnswer
+fn take_event(
+    state: &mut [u8],
+    register: &mut [u8],
+    event: &[u8],
+    out: &mut [u8],
+) -> Result<RegisterAnswer, Refusal>
     requires { AllRead state register out }
-    ensures { AnswersJointly result state register event.now out }
+    ensures joint { AnswersJointly (answer_of result) state register event.now out }
+    ensures taken { IfOk result (λ a. a.number ≡ 0) }
 {
     let first = carry_met(state, register, event);
     let from = green_length(state);
-    let a = act(state, event, out);
-    let answer = a.answer;
-    if answer.number != 0 {
-        return RegisterAnswer::refused(answer.number);
-    }
+    let a = act(state, event, out)?;
     let rest = carry(state, register, from);
     raise(state, a.raises);
-    RegisterAnswer {
+    Ok(RegisterAnswer {
         number: 0,
-        store: answer.store,
-        sent: answer.sent,
+        store: u32::from(a.taken.store),
+        sent: a.taken.sent,
         greened: first.greened + rest.greened,
         refused: first.refused + rest.refused,
-    }
+    })
+}
+
+fn try_step(
+    state: &mut [u8],
+    register: &mut [u8],
+    event: &[u8],
+    out: &mut [u8],
+) -> Result<RegisterAnswer, Refusal>
+    ensures { AnswersJointly (answer_of result) state register event.now out }
+{
+    check_joint(state, register, out)?;
+    take_event(state, register, event, out)
 }
 
 // One event at one server with its register: the buffers' own number first, then the event.
@@ -95,14 +108,14 @@ pub fn joint_step(
 ) -> RegisterAnswer
     ensures { AnswersJointly result state register event.now out }
 {
-    let number = joint_number(state, register, out);
-    if number != 0 {
-        return RegisterAnswer::refused(number);
+    match try_step(state, register, event, out) {
+        Ok(answer) => answer,
+        Err(refusal) => RegisterAnswer::refused(u32::from(refusal)),
     }
-    take_event(state, register, event, out)
 }
 
 // As a burst's answer, with how many actions all its events turned green, and how many operations of these were refused.
+// Stays: numbers in place of a Result and a flag, since it is the C struct of guzbytor_register_burst.
 #[repr(C)]
 #[derive(Clone, Copy)]
 pub struct RegisterBurst {
@@ -154,10 +167,7 @@ impl RegisterBurst {
         if self.events == 0 {
             return true;
         }
-        if self.store == 0 {
-            return self.sent != 0;
-        }
-        true
+        self.store != 0 || self.sent != 0
     }
 }
 
@@ -172,22 +182,22 @@ fn take_first(
     requires { AllRead state register out }
     ensures { AnswersFirst result first state register events.now out }
 {
-    let next = next_in(events, first);
-    let Next::Event(size) = next else {
-        return RegisterBurst::stopped(stop_number(next));
+    let size = match next_in(events, first) {
+        Ok(Some(size)) => size,
+        Ok(None) => return RegisterBurst::stopped(0),
+        Err(refusal) => return RegisterBurst::stopped(u32::from(refusal)),
     };
-    let a = take_event(state, register, &events[..size], out);
-    if a.number != 0 {
-        return RegisterBurst::stopped(a.number);
-    }
-    RegisterBurst {
-        number: 0,
-        store: a.store,
-        sent: a.sent,
-        greened: a.greened,
-        refused: a.refused,
-        events: 1,
-        bytes: size,
+    match take_event(state, register, &events[..size], out) {
+        Ok(a) => RegisterBurst {
+            number: 0,
+            store: a.store,
+            sent: a.sent,
+            greened: a.greened,
+            refused: a.refused,
+            events: 1,
+            bytes: size,
+        },
+        Err(refusal) => RegisterBurst::stopped(u32::from(refusal)),
     }
 }
 
@@ -230,9 +240,8 @@ pub fn joint_burst(
 ) -> RegisterBurst
     ensures { AnswersAll result state register events.now out }
 {
-    let number = joint_number(state, register, out);
-    if number != 0 {
-        return RegisterBurst::stopped(number);
+    if let Err(refusal) = check_joint(state, register, out) {
+        return RegisterBurst::stopped(u32::from(refusal));
     }
     take_burst(state, register, events, out)
 }

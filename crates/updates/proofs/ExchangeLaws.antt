@@ -23,7 +23,6 @@ use Rattle.updates.specs.declared.votes.VoteNumbers.{VoteNumbers}
 use Rattle.updates.specs.Lists.{YellowRoom}
 use Rattle.updates.specs.Standing.{vote_numbers, dropped}
 use Rattle.image.proofs.Chained.{then_holds, Covers, numbers_first, lists_chained}
-use Rattle.updates.proofs.MembershipLaws.{Saved, membership_kept}
 use Rattle.updates.proofs.NoteAllLaws.{all_formed}
 use Rattle.image.proofs.Counts.{numbers, holds_counts}
 use Rattle.format.specs.Places.{id_size}
@@ -34,34 +33,6 @@ pub set_here : (d : Option Configuration) → set_of d ≡ the_set d
 unfolding set_of the_set
 set_here none = refl
 set_here (some c) = refl
-
-pub one_more_come_lem : (h t : State) (b b₁ : List ℕ) → h ≡ header_in b → ((s : Server) → h ≡ header_of s → t ≡ header_of (one_more s)) → Saved t b b₁
-    → (s : Server) → Holds s b → b₁ ≡ image (one_more s) b
-unfolding one_more
-one_more_come_lem h t b b₁ e f g s r =
-    g s s.log s.votes (one_more s).membership r (membership_kept s (one_more s).membership refl) (f s (e ∙ header_loaded s b r))
-
-pub none_come : (h t : State) (b b₁ : List ℕ) → h ≡ header_in b → ((s : Server) → h ≡ header_of s → t ≡ header_of (resending s)) → Saved t b b₁
-    → (s : Server) → Holds s b → b₁ ≡ image (resending s) b
-unfolding resending
-none_come h t b b₁ e f g s r =
-    g s s.log s.votes (resending s).membership r (membership_kept s (resending s).membership refl) (f s (e ∙ header_loaded s b r))
-
-pub attempt_made : (h t : State) (b b₁ : List ℕ) → h ≡ header_in b → ((s : Server) → h ≡ header_of s → t ≡ header_of (attempting s)) → Saved t b b₁
-    → (s : Server) → Holds s b → b₁ ≡ image (attempting s) b
-unfolding attempting attempted
-attempt_made h t b b₁ e f g s r =
-    g s s.log (attempting s).votes (attempting s).membership r
-    (record { cuts = refl; queued = refl; own = begins_refl _; yellow = begins_refl _; states = inl refl })
-    (f s (e ∙ header_loaded s b r))
-
-pub membership_dropped : (h t : State) (b b₁ : List ℕ) → h ≡ header_in b → ((s : Server) → h ≡ header_of s → t ≡ header_of (dropped s)) → Saved t b b₁
-    → (s : Server) → Holds s b → b₁ ≡ image (dropped s) b
-unfolding dropped
-membership_dropped h t b b₁ e f g s r =
-    g s s.log s.votes (dropped s).membership r
-    (record { cuts = refl; queued = refl; own = begins_refl _; yellow = begins_refl _; states = inr refl })
-    (f s (e ∙ header_loaded s b r))
 
 -- ---- the numbers' ranges
 

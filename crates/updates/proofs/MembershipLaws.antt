@@ -7,13 +7,12 @@ use Rattle.base.proofs.Prefixes.{begins_refl}
 use Rattle.base.specs.Tests.{pick}
 use Rattle.base.specs.Lists.{is_there, Begins}
 use Rattle.record.specs.declared.State.{State}
-use Rattle.replication.specs.Machine.Types.{Log, Votes, Mode, Membership, Server, with_votes, in_mode, no_states}
-use Rattle.replication.specs.Machine.Step.{entering, leave, with_cpc, unmarked, yellow_valid}
+use Rattle.replication.specs.Machine.Types.{Votes, Membership, Server, no_states}
 use Rattle.image.specs.Image.{image}
-use Rattle.image.specs.Header.{header_of, header_in, mode_number, senders}
+use Rattle.image.specs.Header.{header_of, header_in, senders}
 use Rattle.image.proofs.HeaderLaws.{header_loaded}
-use Rattle.image.specs.Holding.{Holds}
-use Rattle.updates.specs.Lists.{changed_to, Shortened, configuration_of}
+use Rattle.image.specs.Holding.{Becomes}
+use Rattle.updates.specs.Lists.{changed_to, Shortened, NumbersOf, BecomesNumbered}
 
 -- No State is in.
 pub senders_none : (k n : ℕ) → senders k (no_states n) ≡ 0
@@ -27,61 +26,22 @@ membership_kept s m e =
     record { cuts = refl; queued = refl; own = begins_refl _; yellow = begins_refl _; states = inl e }
 
 -- They are dropped.
-membership_dropped : (s : Server) (m : Membership) → m.states ≡ no_states s.servers → Shortened s s.log s.votes m
+pub membership_dropped : (s : Server) (m : Membership) → m.states ≡ no_states s.servers → Shortened s s.log s.votes m
 membership_dropped s m e =
     record { cuts = refl; queued = refl; own = begins_refl _; yellow = begins_refl _; states = inr e }
 
 -- Only the votes change: the yellow list stays, or is empty.
-votes_kept : (s : Server) (v : Votes) → Begins v.yellow.ids s.votes.yellow.ids → Shortened s s.log v s.membership
+pub votes_kept : (s : Server) (v : Votes) → Begins v.yellow.ids s.votes.yellow.ids → Shortened s s.log v s.membership
 votes_kept s v e =
     record { cuts = refl; queued = refl; own = begins_refl _; yellow = e; states = inl refl }
 
--- What is saved of the numbers h, in the place of b.
-abbrev pub Saved : State → List ℕ → List ℕ → Type 0
-Saved h b b₁ =
-    (s : Server) (l : Log) (v : Votes) (m : Membership) → Holds s b → Shortened s l v m → h ≡ header_of (changed_to s l v m)
-    → b₁ ≡ image (changed_to s l v m) b
-
-pub mode_set : (k : ℕ) (h t : State) (b b₁ : List ℕ) → h ≡ header_in b → ((s : Server) (m : Mode) → h ≡ header_of s → k ≡ mode_number m → t ≡ header_of (in_mode m s))
-    → Saved t b b₁ → (s : Server) (m : Mode) → Holds s b → k ≡ mode_number m → b₁ ≡ image (in_mode m s) b
-mode_set k h t b b₁ e f g s m r i =
-    g s s.log s.votes (in_mode m s).membership r (membership_kept s (in_mode m s).membership refl) (f s m (e ∙ header_loaded s b r) i)
-
-pub exchange_entered : (id set : ℕ) (h t : State) (b b₁ : List ℕ) → h ≡ header_in b
-    → ((s : Server) → h ≡ header_of s → t ≡ header_of (entering (configuration_of id set) s)) → Saved t b b₁
-    → (s : Server) → Holds s b → b₁ ≡ image (entering (configuration_of id set) s) b
-unfolding entering
-exchange_entered id set h t b b₁ e f g s r =
-    let m : Membership = (entering (configuration_of id set) s).membership in
-    g s s.log s.votes m r (membership_dropped s m refl) (f s (e ∙ header_loaded s b r))
-
-pub left_in_place : (k set : ℕ) (h t : State) (b b₁ : List ℕ) → h ≡ header_in b → ((s : Server) (m : Mode) → h ≡ header_of s → k ≡ mode_number m → t ≡ header_of (leave m set s))
-    → Saved t b b₁ → (s : Server) (m : Mode) → Holds s b → k ≡ mode_number m → b₁ ≡ image (leave m set s) b
-unfolding leave
-left_in_place k set h t b b₁ e f g s m r i =
-    let c : Membership = (leave m set s).membership in
-    g s s.log s.votes c r (membership_kept s c refl) (f s m (e ∙ header_loaded s b r) i)
-
-pub cpc_added_lem : (k : ℕ) (h t : State) (b b₁ : List ℕ) → h ≡ header_in b → ((s : Server) → h ≡ header_of s → t ≡ header_of (with_cpc k s))
-    → Saved t b b₁ → (s : Server) → Holds s b → b₁ ≡ image (with_cpc k s) b
-unfolding with_cpc
-cpc_added_lem k h t b b₁ e f g s r =
-    let c : Membership = (with_cpc k s).membership in
-    g s s.log s.votes c r (membership_kept s c refl) (f s (e ∙ header_loaded s b r))
-
--- ---- votes
-
-pub mark_cleared : (h t : State) (b b₁ : List ℕ) → h ≡ header_in b → ((s : Server) → h ≡ header_of s → t ≡ header_of (with_votes (unmarked s.votes) s))
-    → Saved t b b₁ → (s : Server) → Holds s b → b₁ ≡ image (with_votes (unmarked s.votes) s) b
-unfolding unmarked
-mark_cleared h t b b₁ e f g s r =
-    g s s.log (unmarked s.votes) s.membership r (votes_kept s (unmarked s.votes) (begins_refl _)) (f s (e ∙ header_loaded s b r))
-
-pub made_valid_lem : (h t : State) (b b₁ : List ℕ) → h ≡ header_in b → ((s : Server) → h ≡ header_of s → t ≡ header_of (with_votes (yellow_valid s.votes) s))
-    → Saved t b b₁ → (s : Server) → Holds s b → b₁ ≡ image (with_votes (yellow_valid s.votes) s) b
-unfolding yellow_valid
-made_valid_lem h t b b₁ e f g s r =
-    g s s.log (yellow_valid s.votes) s.membership r (votes_kept s (yellow_valid s.votes) (begins_refl _)) (f s (e ∙ header_loaded s b r))
+-- The numbers h of f s are written, where f s is s with other numbers.
+pub change_made : (f : Server → Server) (b c : List ℕ) → ((s : Server) → f s ≡ changed_to s (f s).log (f s).votes (f s).membership)
+    → ((s : Server) → Shortened s (f s).log (f s).votes (f s).membership) → (h : State) → NumbersOf f (header_in b) h → BecomesNumbered h b c
+    → Becomes f b c
+change_made f b c same short h meant saved s r =
+    saved s (f s).log (f s).votes (f s).membership r (short s) (meant s (header_loaded s b r) ∙ ap header_of (same s))
+    ∙ ap (λ (t : Server). image t b) (sym (same s))
 
 -- ---- the header of a state without States
 

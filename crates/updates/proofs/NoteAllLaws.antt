@@ -9,7 +9,6 @@ use native.Mathlib.Numerals.{add-one}
 use native.Mathlib.Omega.{arith}
 use lib.ListN.{length, get_or, take, drop}
 use lib.Seq.{take-length}
-use borrow.Author.Tests.{not-true, not-false}
 use Rattle.base.specs.Bytes.{number_at}
 use Rattle.base.proofs.BytesLaws.{number_drop}
 use Rattle.base.specs.Lists.{present, at_front, Each}
@@ -163,14 +162,14 @@ slot_read s b k r h =
     ∙ states_at_lem (servers_in b) (quota_in b) (number_at 1 b at_states) (servers_in b) 0 k b (place the_states b) h
     ∙ ap (λ (j : ℕ). pick (in_set j (number_at 1 b at_states)) (some (state_at (servers_in b) (drop (state_place k b) b))) none) (zero-add k)
 
-pub slot_empty : (b : List ℕ) (k : ℕ) (x : Bool) → NumberIn k b → x ≡ in_set k (number_at 1 b at_states) → not x ≡ true
+pub slot_empty : (b : List ℕ) (k : ℕ) (x : Bool) → NumberIn k b → x ≡ in_set k (number_at 1 b at_states) → x ≡ false
     → (s : Server) → Holds s b → b ≡ image (with_noted (note_slot (get_or s.membership.states k none) s.noted) s) b
 unfolding note_slot
 slot_empty b k x h e f s r =
-    let out : get_or s.membership.states k none ≡ none = slot_read s b k r h.below ∙ sym (pick_no (in_set k (number_at 1 b at_states)) none _ none (sym e ∙ not-true x f) refl) in
+    let out : get_or s.membership.states k none ≡ none = slot_read s b k r h.below ∙ sym (pick_no (in_set k (number_at 1 b at_states)) none _ none (sym e ∙ f) refl) in
     sym r.written ∙ ap (λ (y : Option State). image (with_noted (note_slot y s.noted) s) b) (sym out)
 
-pub slot_noted : (b c : List ℕ) (k l : ℕ) (x : Bool) → NumberIn k b → x ≡ in_set k (number_at 1 b at_states) → not x ≡ false
+pub slot_noted : (b c : List ℕ) (k l : ℕ) (x : Bool) → NumberIn k b → x ≡ in_set k (number_at 1 b at_states) → x ≡ true
     → l ≡ sent_length k b
     → ((s : Server) → Holds s b → c ≡ image (with_noted (note k l s.noted) s) b)
     → (s : Server) → Holds s b → c ≡ image (with_noted (note_slot (get_or s.membership.states k none) s.noted) s) b
@@ -178,7 +177,7 @@ unfolding note_slot state_at sent_length
 slot_noted b c k l x h e f g i s r =
     let at : ℕ = state_place k b in
     let y : State = state_at (servers_in b) (drop at b) in
-    let in_slot : get_or s.membership.states k none ≡ some y = slot_read s b k r h.below ∙ sym (pick_yes (in_set k (number_at 1 b at_states)) (some y) _ none (sym e ∙ not-false x f) refl) in
+    let in_slot : get_or s.membership.states k none ≡ some y = slot_read s b k r h.below ∙ sym (pick_yes (in_set k (number_at 1 b at_states)) (some y) _ none (sym e ∙ f) refl) in
     let sender : y.sender ≡ k = ((body s (well_formed_facts s r.formed)).membership.states k y in_slot).sender in
     let sent : l ≡ y.green_length = g ∙ sym (number_drop 4 b at (state_cuts_at + 2 * servers_in b)) in
     i s r

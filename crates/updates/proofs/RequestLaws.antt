@@ -41,7 +41,6 @@ use mir.Syntax.{w16}
 use mir.Val.{Fits}
 use Rattle.updates.specs.Lists.{next_head, MayNumber, PayloadRoom, SlotRoom}
 use Rattle.updates.proofs.Changes.{changed_image}
-use Rattle.updates.proofs.MembershipLaws.{Saved}
 use Rattle.image.specs.Counts.{place}
 use Rattle.image.proofs.Counts.{holds_place, holds_counts, numbers}
 
@@ -125,12 +124,3 @@ request_numbered p b b₁ at own num h room e₁ e₂ e₃ e₄ e₅ s r left =
     counts_written s p (num + 1) (own + 1) less more in
     e₅
     ∙ changed_image t _ b _ three (ap₂ {A = List ℕ} {B = List ℕ} {C = List (List ℕ)} (λ u v. set (set (parts n q s b) the_own v) the_header u) header slots)
-
--- ---- what waits is sent
-
-pub waiting_marked : (h t : State) (b b₁ : List ℕ) → h ≡ header_in b → ((s : Server) → h ≡ header_of s → t ≡ header_of (send_waiting s)) → Saved t b b₁
-    → (s : Server) → Holds s b → b₁ ≡ image (send_waiting s) b
-unfolding send_waiting queue
-waiting_marked h t b b₁ e f g s r =
-    g s (send_waiting s).log s.votes s.membership r
-    (record { cuts = refl; queued = refl; own = begins_refl _; yellow = begins_refl _; states = inl refl }) (f s (e ∙ header_loaded s b r))

@@ -11,7 +11,7 @@ use Rattle.image.specs.Layout.{header_size, state_size, the_states, at_own_count
 use Rattle.image.specs.Decode.{servers_in, quota_in}
 use Rattle.image.specs.Counts.{place, most_actions, CountsIn}
 use Rattle.record.specs.declared.State.{State}
-use Rattle.image.specs.Header.{header_of, shown_log, mode_number}
+use Rattle.image.specs.Header.{header_of, header_in, shown_log, mode_number}
 use Rattle.image.specs.Image.{image}
 use Rattle.image.specs.Holding.{Holds, HoldsSuch, Becomes}
 use Rattle.replication.specs.Machine.Colours.{join_yellow, shown}
@@ -104,6 +104,10 @@ abbrev pub BecomesNumbered : (h : State) → (b b' : List ℕ) → Type 0
 BecomesNumbered h b b' =
     (s : Server) (l : Log) (v : Votes) (m : Membership)
     → Holds s b → Shortened s l v m → h ≡ header_of (changed_to s l v m) → b' ≡ image (changed_to s l v m) b
+
+-- The numbers that P says of those in b are written.
+abbrev pub ChangedBy : (P : State → State → Type 0) → (b b' : List ℕ) → Type 0
+ChangedBy P b b' = (h : State) × P (header_in b) h × BecomesNumbered h b b'
 
 -- A change to the state of the number k.
 abbrev pub BecomesIn : (k : ℕ) → (Mode → Server → Server) → (b b' : List ℕ) → Type 0

@@ -1,5 +1,5 @@
 // Noted lengths in a state's buffer.
-ghost use Rattle.std.specs.Prelude.{◌≡◌, ◌≤◌, min, length};
+ghost use Rattle.std.specs.Prelude.{◌≡◌, ◌≤◌, length};
 ghost use Rattle.base.specs.Bytes.{number_at};
 ghost use Rattle.base.specs.Sets.{in_set};
 ghost use Rattle.replication.specs.Machine.Types.{with_noted};
@@ -13,7 +13,7 @@ ghost use Rattle.updates.specs.Lists.{NumberIn};
 ghost use Rattle.updates.specs.Noting.{sent_length, noted_slot};
 
 use crate::states::state_place;
-use image::places::{THE_NOTED, place_of};
+use image::places::{Section, place_of};
 use octets::numbers::{num8, num32, put32};
 use record::State;
 use record::events::StateHead;
@@ -24,21 +24,10 @@ pub fn note(state: &mut [u8], c: u8, l: u32)
     requires { NumberIn c state.old }
     ensures { Becomes (λ s. with_noted (noted c l s.noted) s) state.old state.new }
 {
-    let at = place_of(state, THE_NOTED) + State::NOTED * c as usize;
-    let old = num32(state, at);
-    if l <= old {
-        return;
+    let at = place_of(state, Section::Noted) + State::NOTED * c as usize;
+    if num32(state, at) < l {
+        put32(state, at, l);
     }
-    put32(state, at, l);
-}
-
-fn lower(x: u32, y: u32) -> u32
-    ensures { result ≡ min x y }
-{
-    if y < x {
-        return y;
-    }
-    x
 }
 
 // The least noted length: so many actions are green on every server.
@@ -46,14 +35,12 @@ pub fn least_noted(state: &[u8]) -> u32
     requires { HoldsSome state.now }
     ensures { Computes (λ s. least s.noted) state.now result }
 {
-    let at = place_of(state, THE_NOTED);
+    let at = place_of(state, Section::Noted);
     let servers = num8(state, State::AT_SERVERS) as usize;
     let mut low = num32(state, at);
-    let mut k: usize = 1;
-    while k < servers {
+    for k in 1..servers {
         let length = num32(state, at + State::NOTED * k);
-        low = lower(low, length);
-        k += 1;
+        low = low.min(length);
     }
     low
 }
@@ -81,11 +68,10 @@ fn note_state(state: &mut [u8], k: u8)
     requires { NumberIn k state.old }
     ensures { Becomes (noted_slot k) state.old state.new }
 {
-    if !is_in(state, k) {
-        return;
+    if is_in(state, k) {
+        let l = sent_length(state, k);
+        note(state, k, l);
     }
-    let l = sent_length(state, k);
-    note(state, k, l);
 }
 
 // "note each State's green length"
@@ -94,9 +80,7 @@ pub fn note_all(state: &mut [u8])
     ensures { Becomes (λ s. with_noted (note_all (collected s) s.noted) s) state.old state.new }
 {
     let n = num8(state, State::AT_SERVERS);
-    let mut k: u8 = 0;
-    while k < n {
+    for k in 0..n {
         note_state(state, k);
-        k += 1;
     }
 }

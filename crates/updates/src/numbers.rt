@@ -1,15 +1,18 @@
 // The numbers of a state written anew, where its lists stay or become shorter.
 ghost use Rattle.std.specs.Prelude.{◌≤◌, length};
-ghost use Rattle.updates.specs.Lists.{BecomesNumbered};
+ghost use Rattle.updates.specs.Lists.{ChangedBy};
+ghost use Rattle.image.specs.Header.{header_in};
 ghost use Rattle.image.specs.Layout.{header_size};
 
-use image::header::save;
+use image::header::{load, save};
 use record::State;
 
-// Saves the numbers of the changed state.
-pub fn save_numbers(state: &mut [u8], h: State)
-    requires { header_size ≤ length state.old }
-    ensures { BecomesNumbered h state.old state.new }
+// Writes the numbers that `f` makes of the state's.
+pub fn change<F: FnOnce(State) -> State>(state: &mut [u8], f: F)
+    requires room { header_size ≤ length state.old }
+    requires callable { F.pre f (header_in state.old) }
+    ensures { ChangedBy (F.post f) state.old state.new }
 {
-    save(state, h);
+    let h = load(state);
+    save(state, f(h));
 }

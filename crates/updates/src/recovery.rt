@@ -1,5 +1,5 @@
 // Recovery: the own list entered red, and what was collected dropped.
-ghost use Rattle.std.specs.Prelude.{◌≡◌, ◌+◌, ◌≤◌, max, length};
+ghost use Rattle.std.specs.Prelude.{◌≡◌, ◌+◌, ◌≤◌, length};
 ghost use Rattle.base.specs.Bytes.{bytes_of};
 ghost use Rattle.base.specs.Patched.{patched};
 ghost use Rattle.replication.specs.Machine.Types.{with_log};
@@ -9,37 +9,25 @@ ghost use Rattle.replication.specs.Machine.White.{highest_white};
 ghost use Rattle.image.specs.Holding.{HoldsSome, Becomes, Computes};
 ghost use Rattle.updates.specs.Standing.{EnterRoom, dropped};
 ghost use Rattle.image.specs.Layout.{header_size};
-ghost use Rattle.updates.specs.Lists.{NumbersOf, queue_counts};
+ghost use Rattle.updates.specs.Lists.{queue_counts};
 
-use crate::numbers::save_numbers;
-use image::header::load;
-use image::places::{THE_OWN, THE_QUEUE, place_of};
+use crate::numbers::change;
+use image::places::{Section, place_of};
 use octets::blocks::copy_up;
 use octets::numbers::{num8, num16, num32, put16, put32};
-use record::{ActionHead, State};
-
-fn higher(x: u32, y: u32) -> u32
-    ensures { result ≡ max x y }
-{
-    if x < y {
-        return y;
-    }
-    x
-}
+use record::{ActionHead, Mode, State};
 
 // The highest white length on the own list: a recovery enters that list, and takes it before.
 pub fn highest_white(state: &[u8]) -> u32
     requires { HoldsSome state.now }
     ensures { Computes (λ s. highest_white s.log.own) state.now result }
 {
-    let at = place_of(state, THE_OWN);
+    let at = place_of(state, Section::Own);
     let own = num16(state, State::AT_OWN_COUNT) as usize;
     let mut high: u32 = 0;
-    let mut k: usize = 0;
-    while k < own {
+    for k in 0..own {
         let length = num32(state, at + State::SLOT * k + ActionHead::WHITE_LENGTH);
-        high = higher(high, length);
-        k += 1;
+        high = high.max(length);
     }
     high
 }
@@ -68,8 +56,8 @@ fn enter_own(state: &mut [u8])
 {
     let own = num16(state, State::AT_OWN_COUNT);
     let queue = num32(state, State::AT_QUEUE_LENGTH);
-    let from = place_of(state, THE_OWN);
-    let to = place_of(state, THE_QUEUE);
+    let from = place_of(state, Section::Own);
+    let to = place_of(state, Section::Queue);
     let at = State::SIZE + State::CUT * num8(state, State::AT_ME) as usize;
     let numbered = num16(state, State::AT_NUMBERED);
     copy_up(
@@ -81,28 +69,24 @@ fn enter_own(state: &mut [u8])
     put_entered(state, queue + own as u32, at, numbered);
 }
 
-fn without_membership(h: State) -> State
-    ensures { NumbersOf dropped h result }
-{
-    let mut t = h;
-    t.mode = State::NON_PRIM;
-    t.configuration_status = 0;
-    t.configuration_id = 0;
-    t.configuration_set = 0;
-    t.transitional_status = 0;
-    t.transitional_set = 0;
-    t.states = 0;
-    t
-}
-
 // "Non_prim, no configuration, .. States dropped"
 fn drop_membership(state: &mut [u8])
     requires { header_size ≤ length state.old }
     ensures { Becomes dropped state.old state.new }
 {
-    let h = load(state);
-    let t = without_membership(h);
-    save_numbers(state, t);
+    change(
+        state,
+        |h| State {
+            mode: u8::from(Mode::NonPrim),
+            configuration_status: 0,
+            configuration_id: 0,
+            configuration_set: 0,
+            transitional_status: 0,
+            transitional_set: 0,
+            states: 0,
+            ..h
+        },
+    );
 }
 
 // "Recovery, from the stored image"

@@ -4,12 +4,11 @@ ghost use Rattle.record.specs.Values.{action_of};
 ghost use Rattle.replication.specs.Machine.Requests.{numbered as with_numbered, send_waiting};
 ghost use Rattle.image.specs.Layout.{slot_size, header_size};
 ghost use Rattle.image.specs.Holding.{HoldsSuch, Becomes, BecomesWhere, Computes};
-ghost use Rattle.updates.specs.Lists.{PayloadRoom, SlotRoom, next_head, own_counts, NumbersOf, MayNumber};
+ghost use Rattle.updates.specs.Lists.{PayloadRoom, SlotRoom, next_head, own_counts, MayNumber};
 ghost use Rattle.queue.specs.Queue.{slot_put};
 
-use crate::numbers::save_numbers;
-use image::header::load;
-use image::places::{THE_OWN, place_of};
+use crate::numbers::change;
+use image::places::{Section, place_of};
 use octets::numbers::{num8, num16, put16};
 use queue::history::{green_length, white_length};
 use queue::slots::put_slot;
@@ -50,7 +49,7 @@ pub fn number(state: &mut [u8], payload: &[u8])
     requires { PayloadRoom payload.now state.old }
     ensures { BecomesWhere MayNumber (with_numbered payload.now) state.old state.new }
 {
-    let at = place_of(state, THE_OWN);
+    let at = place_of(state, Section::Own);
     let own = num16(state, State::AT_OWN_COUNT);
     let numbered = num16(state, State::AT_NUMBERED);
     let head = next_head(state);
@@ -64,22 +63,16 @@ pub fn number(state: &mut [u8], payload: &[u8])
     );
 }
 
-// All that are numbered are sent.
-fn with_sent(h: State) -> State
-    ensures { NumbersOf send_waiting h result }
-{
-    let numbered = h.numbered;
-    let mut t = h;
-    t.sent = numbered;
-    t
-}
-
 // What waits is sent: no byte of the own list moves.
 pub fn send_waiting(state: &mut [u8])
     requires { header_size ≤ length state.old }
     ensures { Becomes send_waiting state.old state.new }
 {
-    let h = load(state);
-    let t = with_sent(h);
-    save_numbers(state, t);
+    change(
+        state,
+        |h| State {
+            sent: h.numbered,
+            ..h
+        },
+    );
 }

@@ -4,13 +4,13 @@ ghost use Rattle.replication.specs.Machine.Types.{Votes, Server, with_votes};
 ghost use Rattle.replication.specs.Machine.Step.{unmarked, yellow_valid};
 ghost use Rattle.image.specs.Header.{header_of};
 ghost use Rattle.image.specs.Holding.{Becomes};
-ghost use Rattle.updates.specs.Lists.{YellowRoom, NumbersOf};
+ghost use Rattle.updates.specs.Lists.{YellowRoom};
 ghost use Rattle.updates.specs.Standing.{vote_numbers, BecomesVoted};
 ghost use Rattle.image.specs.Layout.{header_size};
 
-use crate::numbers::save_numbers;
+use crate::numbers::change;
 use image::header::{load, save};
-use image::places::{THE_YELLOW, place_of};
+use image::places::{Section, place_of};
 use octets::blocks::copy;
 use record::{AttemptIndex, LastPrimary, Mark, PrimaryIndex, State};
 
@@ -24,8 +24,10 @@ pub struct VoteNumbers {
     pub yellow_count: u16,
 }
 
-fn without_mark(h: State) -> State
-    ensures { NumbersOf (λ s. with_votes (unmarked s.votes) s) h result }
+// "clears the mark"
+pub fn clear_mark(state: &mut [u8])
+    requires { header_size ≤ length state.old }
+    ensures { Becomes (λ s. with_votes (unmarked s.votes) s) state.old state.new }
 {
     let none = Mark {
         status: 0,
@@ -34,27 +36,7 @@ fn without_mark(h: State) -> State
         set: 0,
         bits: 0,
     };
-    let mut t = h;
-    t.mark = none;
-    t
-}
-
-// "clears the mark"
-pub fn clear_mark(state: &mut [u8])
-    requires { header_size ≤ length state.old }
-    ensures { Becomes (λ s. with_votes (unmarked s.votes) s) state.old state.new }
-{
-    let h = load(state);
-    let t = without_mark(h);
-    save_numbers(state, t);
-}
-
-fn with_valid(h: State) -> State
-    ensures { NumbersOf (λ s. with_votes (yellow_valid s.votes) s) h result }
-{
-    let mut t = h;
-    t.yellow_status = 1;
-    t
+    change(state, |h| State { mark: none, ..h });
 }
 
 // "makes yellow valid"
@@ -62,24 +44,26 @@ pub fn make_yellow_valid(state: &mut [u8])
     requires { header_size ≤ length state.old }
     ensures { Becomes (λ s. with_votes (yellow_valid s.votes) s) state.old state.new }
 {
-    let h = load(state);
-    let t = with_valid(h);
-    save_numbers(state, t);
+    change(
+        state,
+        |h| State {
+            yellow_status: 1,
+            ..h
+        },
+    );
 }
 
 fn with_votes(h: State, v: VoteNumbers) -> State
     ensures { (s : Server) (w : Votes) → h ≡ header_of s → v ≡ vote_numbers w → result ≡ header_of (with_votes w s) }
 {
-    let last = v.last;
-    let attempt = v.attempt;
-    let mark = v.mark;
-    let mut t = h;
-    t.last = last;
-    t.attempt = attempt;
-    t.mark = mark;
-    t.yellow_status = v.yellow_status;
-    t.yellow_count = v.yellow_count;
-    t
+    State {
+        last: v.last,
+        attempt: v.attempt,
+        mark: v.mark,
+        yellow_status: v.yellow_status,
+        yellow_count: v.yellow_count,
+        ..h
+    }
 }
 
 // Other votes: their numbers, and the bytes of the yellow ids.
@@ -89,7 +73,7 @@ pub fn take_votes(state: &mut [u8], v: VoteNumbers, ids: &[u8])
 {
     let h = load(state);
     let t = with_votes(h, v);
-    let at = place_of(state, THE_YELLOW);
+    let at = place_of(state, Section::Yellow);
     copy(state, at, ids);
     save(state, t);
 }

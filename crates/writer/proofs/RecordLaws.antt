@@ -1,13 +1,15 @@
 -- What each return of each writer is worth, but a State's.
-use Prim.Native.Nat.{ℕ, ◌+◌, ◌-◌, ◌%◌, ◌≤◌, ◌<◌}
+use Prim.Native.Nat.{ℕ, ◌+◌, ◌-◌, ◌/◌, ◌%◌, ◌≤◌, ◌<◌}
 use mathlib.Core.Path.{◌≡◌, refl, sym, ap, ◌∙◌}
 use mathlib.Core.Bool.{Bool, true, false, not}
 use mathlib.Core.List.{List, [], ◌∷◌}
 use native.Mathlib.Omega.{arith}
 use Rattle.std.specs.Prelude.{Some, None}
+use lib.Dec.{leb}
+use Rattle.base.proofs.Branches.{told_le}
 use lib.ListN.{length}
 use Rattle.base.specs.Bytes.{bytes_of}
-use Rattle.base.proofs.BytesLaws.{bytes_length}
+use Rattle.base.proofs.BytesLaws.{bytes_length, bytes2}
 use Rattle.base.proofs.Over.{over_front}
 use Rattle.base.specs.Patched.{patched}
 use Rattle.base.proofs.Stores.{next_block, blocks_joined}
@@ -27,24 +29,30 @@ use Rattle.writer.proofs.RecordBytes.{frame_length, opening_length, cpc_bytes, a
 -- ---- how `fits` answers
 
 module _ (l size more : ℕ) where
-  pub fits_not : l < size → false ≡ (size + more ≤? l)
-  fits_not h = sym (le_no (size + more) l (omega arith))
+  pub fits_not : l < size → leb size l ≡ (size + more ≤? l)
+  fits_not h = told_le size l ∙ le_no size l h ∙ sym (le_no (size + more) l (omega arith))
 
   fits_by : (b : Bool) → size ≤ l → (b ≡ true → more ≤ l - size) → (b ≡ false → l - size < more) → b ≡ (size + more ≤? l)
   fits_by true h y n = let z = y refl in sym (le_yes (size + more) l (omega arith))
   fits_by false h y n = let z = n refl in sym (le_no (size + more) l (omega arith))
 
-  pub fits_rest : size ≤ l → (more ≤? l - size) ≡ (size + more ≤? l)
-  fits_rest h = fits_by (more ≤? l - size) h (le_holds more (l - size)) (le_fails more (l - size))
+  pub fits_rest : size ≤ l → leb more (l - size) ≡ (size + more ≤? l)
+  fits_rest h = told_le more (l - size) ∙ fits_by (more ≤? l - size) h (le_holds more (l - size)) (le_fails more (l - size))
 
 -- ---- what every record begins with
 
+low_two : (v : ℕ) → bytes_of 2 (v % 65536) ≡ bytes_of 2 v
+low_two v =
+    let a : v % 65536 / 256 % 256 ≡ v / 256 % 256 = omega arith in
+    let b : v % 65536 % 256 ≡ v % 256 = omega arith in
+    rw (bytes2 (v % 65536), bytes2 v, a, b)
+
 module _ (s s₁ s₂ s₃ : List ℕ) where
-  pub frame_put : (follows kind : ℕ) → s₁ ≡ patched 0 (bytes_of length_size follows) s → s₂ ≡ patched at_version (bytes_of 1 version) s₁
+  pub frame_put : (follows kind : ℕ) → s₁ ≡ patched 0 (bytes_of length_size (follows % 65536)) s → s₂ ≡ patched at_version (bytes_of 1 version) s₁
       → s₃ ≡ patched at_kind (bytes_of 1 kind) s₂ → s₃ ≡ patched 0 (frame_bytes follows kind) s
   unfolding frame_bytes
   frame_put follows kind e f g =
-      rw (g, f, e)
+      rw (g, f, e, low_two follows)
       (blocks_joined 0 (0 ∷ at_version ∷ at_kind ∷ []) (_ ∷ _ ∷ _ ∷ []) s (omega arith)
       (refl, (omega (arith, bytes_length 2 follows), (omega (arith, bytes_length 1 version), tt))))
 

@@ -128,6 +128,6 @@ module _ (h : StateHead) (cuts ids s : List ℕ) where
     pub state_full : length s < state_head_size + lists_size h → put_of None s ≡ put_state h cuts ids s
     state_full l = given _ (put_full written s (omega (arith, state_size_lem)))
 
-    pub state_next : (s₁ : List ℕ) → state_head_size + lists_size h ≤ length s → s₁ ≡ patched 0 written s
-        → put_of (Some (state_head_size + lists_size h)) s₁ ≡ put_state h cuts ids s
-    state_next s₁ l e = given _ (put_next written s _ s₁ (omega (arith, state_size_lem)) (sym state_size_lem) e)
+    pub state_next : (z : ℕ) (s₁ : List ℕ) → z ≡ state_head_size + lists_size h → z ≤ length s → s₁ ≡ patched 0 written s
+        → put_of (Some z) s₁ ≡ put_state h cuts ids s
+    state_next z s₁ f l e = given _ (put_next written s z s₁ (omega (arith, state_size_lem)) (f ∙ sym state_size_lem) e)

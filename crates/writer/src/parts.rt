@@ -3,20 +3,20 @@ ghost use Rattle.std.specs.Prelude.{◌≡◌, ◌+◌, ◌≤◌, length};
 ghost use Rattle.base.specs.Patched.{patched};
 ghost use Rattle.format.specs.Places.{id_size, action_payload_at, action_head_size, primary_size, mark_size, yellow_head_size};
 ghost use Rattle.format.specs.Write.{id_bytes, action_bytes, primary_bytes, mark_bytes};
-ghost use Rattle.record.specs.Values.{id_of, primary_of, mark_of, action_of};
+ghost use Rattle.record.specs.Values.{the_id, primary_of, mark_of, action_of};
 ghost use Rattle.writer.specs.Blocks.{head_bytes, yellow_head_bytes};
 
 use octets::blocks::put_counted;
 use octets::numbers::{put8, put16, put32};
 use record::events::StateHead;
-use record::{ActionHead, LastPrimary, Mark};
+use record::{ActionHead, ActionId, LastPrimary, Mark};
 
-pub fn put_id(out: &mut [u8], at: usize, creator: u8, index: u16)
+pub fn put_id(out: &mut [u8], at: usize, id: ActionId)
     requires { at + id_size ≤ length out.old }
-    ensures { out.new ≡ patched at (id_bytes (id_of creator index)) out.old }
+    ensures { out.new ≡ patched at (id_bytes (the_id id)) out.old }
 {
-    put8(out, at, creator);
-    put16(out, at + ActionHead::INDEX, index);
+    put8(out, at, id.creator);
+    put16(out, at + ActionHead::INDEX, id.index);
 }
 
 // An action's id and its creator's green and white length.
@@ -24,7 +24,7 @@ pub fn put_head(out: &mut [u8], at: usize, head: ActionHead)
     requires { at + action_payload_at ≤ length out.old }
     ensures { out.new ≡ patched at (head_bytes head) out.old }
 {
-    put_id(out, at, head.creator, head.index);
+    put_id(out, at, head.id());
     put32(out, at + ActionHead::GREEN_LENGTH, head.green_length);
     put32(out, at + ActionHead::WHITE_LENGTH, head.white_length);
 }

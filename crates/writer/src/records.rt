@@ -5,17 +5,18 @@ ghost use Rattle.std.specs.Prelude.{◌≡◌, ◌+◌, ◌≤◌, length};
 ghost use Rattle.base.specs.Patched.{patched};
 ghost use Rattle.base.specs.Tests.{◌≤?◌};
 ghost use Rattle.format.specs.Places.{at_body, cpc_size, standing_size};
-ghost use Rattle.format.specs.Types.{action, cpc};
+ghost use Rattle.format.specs.Types.{action, cpc, kind_number};
 ghost use Rattle.format.specs.Write.{write};
+ghost use Rattle.record.specs.Codes.{the_kind};
 ghost use Rattle.record.specs.Values.{action_of, resent};
 ghost use Rattle.writer.specs.Blocks.{frame_bytes, opening_bytes, standing_bytes, StateRoom};
 ghost use Rattle.writer.specs.Written.{Puts, given_bytes, put_of, put_state};
 
 use crate::parts::{put_body, put_mark, put_primary, put_yellow_head};
 use octets::blocks::copy;
-use octets::numbers::{put_number, put8, put32};
+use octets::numbers::{put8, put16, put32};
 use record::events::{Event, StateHead, VERSION};
-use record::{ActionHead, State};
+use record::{ActionHead, Kind, State};
 
 // What the length bytes count of a record of each kind, but payload, cuts and ids.
 const ACTION_FOLLOWS: u32 = (Event::ACTION_SIZE - Event::LENGTH_SIZE) as u32;
@@ -27,32 +28,29 @@ const STATE_FOLLOWS: u32 = (StateHead::SIZE - Event::LENGTH_SIZE) as u32;
 const CPC_FOLLOWS: u32 = (Event::CPC_SIZE - Event::LENGTH_SIZE) as u32;
 
 // Two length bytes tell a length modulo this.
-const LENGTH_MODULUS: usize = 65536;
+const LENGTH_MODULUS: u32 = 65536;
 
 // Whether `size` bytes and `more` behind them lie inside `length` bytes.
 fn fits(length: usize, size: usize, more: usize) -> bool
     ensures { result ≡ (size + more ≤? length) }
 {
-    if length < size {
-        return false;
-    }
-    more <= length - size
+    size <= length && more <= length - size
 }
 
 // Length bytes, version and kind.
-fn put_frame(rest: &mut [u8], follows: u32, kind: u8)
+fn put_frame(rest: &mut [u8], follows: u32, kind: Kind)
     requires { at_body ≤ length rest.old }
-    ensures { rest.new ≡ patched 0 (frame_bytes follows kind) rest.old }
+    ensures { rest.new ≡ patched 0 (frame_bytes follows (kind_number (the_kind kind))) rest.old }
 {
-    put_number(rest, 0, Event::LENGTH_SIZE, follows);
+    put16(rest, 0, (follows % LENGTH_MODULUS) as u16);
     put8(rest, Event::VERSION_AT, VERSION);
-    put8(rest, Event::KIND_AT, kind);
+    put8(rest, Event::KIND_AT, u8::from(kind));
 }
 
 // These, a sender and a number: all of a CPC, and what a State and a retransmission begin with.
-fn put_opening(rest: &mut [u8], follows: u32, kind: u8, sender: u8, number: u32)
+fn put_opening(rest: &mut [u8], follows: u32, kind: Kind, sender: u8, number: u32)
     requires { cpc_size ≤ length rest.old }
-    ensures { rest.new ≡ patched 0 (opening_bytes follows kind sender number) rest.old }
+    ensures { rest.new ≡ patched 0 (opening_bytes follows (kind_number (the_kind kind)) sender number) rest.old }
 {
     put_frame(rest, follows, kind);
     put8(rest, Event::SENDER, sender);
@@ -66,7 +64,7 @@ pub fn write_cpc(rest: &mut [u8], sender: u8, configuration: u32) -> Option<usiz
     if rest.len() < Event::CPC_SIZE {
         return None;
     }
-    put_opening(rest, CPC_FOLLOWS, Event::CPC, sender, configuration);
+    put_opening(rest, CPC_FOLLOWS, Kind::Cpc, sender, configuration);
     Some(Event::CPC_SIZE)
 }
 
@@ -78,8 +76,8 @@ pub fn write_action(rest: &mut [u8], head: ActionHead, payload: &[u8]) -> Option
     if !fits(rest.len(), Event::ACTION_SIZE, size) {
         return None;
     }
-    let follows = ACTION_FOLLOWS + (size % LENGTH_MODULUS) as u32;
-    put_frame(rest, follows, Event::ACTION);
+    let follows = ACTION_FOLLOWS + (size % LENGTH_MODULUS as usize) as u32;
+    put_frame(rest, follows, Kind::Action);
     put_body(rest, Event::BODY, head, payload);
     Some(Event::ACTION_SIZE + size)
 }
@@ -98,8 +96,8 @@ pub fn write_retransmission(
     if !fits(rest.len(), Event::RETRANSMISSION_SIZE, size) {
         return None;
     }
-    let follows = RETRANSMISSION_FOLLOWS + (size % LENGTH_MODULUS) as u32;
-    put_opening(rest, follows, Event::RETRANSMISSION, sender, position);
+    let follows = RETRANSMISSION_FOLLOWS + (size % LENGTH_MODULUS as usize) as u32;
+    put_opening(rest, follows, Kind::Retransmission, sender, position);
     put_body(rest, Event::RESENT, head, payload);
     Some(Event::RETRANSMISSION_SIZE + size)
 }
@@ -126,10 +124,10 @@ fn put_state(rest: &mut [u8], head: StateHead, cuts: &[u8], ids: &[u8])
     requires { StateRoom head cuts.now ids.now rest.old }
     ensures { rest.new ≡ patched 0 (given_bytes head cuts.now ids.now) rest.old }
 {
-    let n = State::CUT * (head.servers as usize);
-    let m = State::ID * (head.yellow_count as usize);
+    let n = State::CUT * usize::from(head.servers);
+    let m = State::ID * usize::from(head.yellow_count);
     let follows = STATE_FOLLOWS + (n + m) as u32;
-    put_opening(rest, follows, Event::STATE, head.sender, head.configuration);
+    put_opening(rest, follows, Kind::State, head.sender, head.configuration);
     copy(rest, StateHead::CUTS, &cuts[..n]);
     put_standing(rest, StateHead::CUTS + n, head);
     copy(rest, StateHead::SIZE + n, &ids[..m]);
@@ -139,15 +137,9 @@ fn put_state(rest: &mut [u8], head: StateHead, cuts: &[u8], ids: &[u8])
 pub fn write_state(rest: &mut [u8], head: StateHead, cuts: &[u8], ids: &[u8]) -> Option<usize>
     ensures { put_of result rest.new ≡ put_state head cuts.now ids.now rest.old }
 {
-    let n = State::CUT * (head.servers as usize);
-    if cuts.len() < n {
-        return None;
-    }
-    let m = State::ID * (head.yellow_count as usize);
-    if ids.len() < m {
-        return None;
-    }
-    if rest.len() < StateHead::SIZE + (n + m) {
+    let n = State::CUT * usize::from(head.servers);
+    let m = State::ID * usize::from(head.yellow_count);
+    if cuts.len() < n || ids.len() < m || rest.len() < StateHead::SIZE + (n + m) {
         return None;
     }
     put_state(rest, head, cuts, ids);

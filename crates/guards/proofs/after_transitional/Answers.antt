@@ -1,31 +1,23 @@
-use Rattle.guards.specs.Modes.{mode_after}
-use Rattle.image.specs.Decode.{mode_named}
-use Rattle.image.specs.Header.{mode_number}
-use Rattle.base.specs.Tests.{◌=?◌, pick}
-use mathlib.Core.Path.{refl}
-use Rattle.guards.proofs.ModeLaws.{after_as, after_none}
-use borrow.Author.Rules.{rules}
+use mathlib.Core.Path.{sym, ap, ◌∙◌}
+use mathlib.Core.Logic.{⊎_elim}
+use Rattle.guards.proofs.ModeLaws.{code_after, after_code, after_past}
 use Rattle.guards.proofs.after_transitional.Goals as goal
 
-pub returns-in-0 : goal.returns-in-0
-unfolding mode_after mode_named mode_number pick ◌=?◌
-returns-in-0 c = after_as _ _ 0 c.in-0.is refl
-
-pub returns-in-1 : goal.returns-in-1
-unfolding mode_after mode_named mode_number pick ◌=?◌
-returns-in-1 c = after_as _ _ 1 c.in-1.is refl
-
-pub returns-in-3 : goal.returns-in-3
-unfolding mode_after mode_named mode_number pick ◌=?◌
-returns-in-3 c = after_as _ _ 3 c.in-3.is refl
-
-pub returns-in-4 : goal.returns-in-4
-unfolding mode_after mode_named mode_number pick ◌=?◌
-returns-in-4 c = after_as _ _ 4 c.in-4.is refl
-
-pub returns-in-5 : goal.returns-in-5
-unfolding mode_after mode_named mode_number pick ◌=?◌
-returns-in-5 c = after_as _ _ 5 c.in-5.is refl
-
 pub returns-in_default : goal.returns-in_default
-returns-in_default c = search (rules, after_none)
+returns-in_default c = after_past _ _ c.in_default.ensures.1
+
+pub returns-in-NonPrim : goal.returns-in-NonPrim
+returns-in-NonPrim c m e =
+    ⊎_elim (λ h. ap code_after (sym h)) (λ g. ⊎_elim (λ h. ap code_after (sym h)) (λ h. ap code_after (sym h)) g) c.in-NonPrim.is
+    ∙ after_code c.in-Ok.mode _ c.in-Ok.ensures m e
+
+pub returns-in-RegPrim : goal.returns-in-RegPrim
+returns-in-RegPrim c m e = ap code_after (sym c.in-RegPrim.is) ∙ after_code c.in-Ok.mode _ c.in-Ok.ensures m e
+
+pub returns-in-Construct : goal.returns-in-Construct
+returns-in-Construct c m e = ap code_after (sym c.in-Construct.is) ∙ after_code c.in-Ok.mode _ c.in-Ok.ensures m e
+
+pub returns-in-TransPrim : goal.returns-in-TransPrim
+returns-in-TransPrim c m e =
+    ⊎_elim (λ h. ap code_after (sym h)) (λ g. ⊎_elim (λ h. ap code_after (sym h)) (λ h. ap code_after (sym h)) g) c.in-TransPrim.is
+    ∙ after_code c.in-Ok.mode _ c.in-Ok.ensures m e

@@ -5,5 +5,5 @@ use Rattle.guards.proofs.regular_due.Goals as goal
 pub returns-then-h-eq1 : goal.returns-then-h-eq1
 returns-then-h-eq1 c = search (rules, regular_after)
 
-pub returns : goal.returns
-returns c = search (rules, regular_first)
+pub returns-else-h-eq1 : goal.returns-else-h-eq1
+returns-else-h-eq1 c = search (rules, regular_first)

@@ -5,5 +5,5 @@ use Rattle.plane.proofs.between.Goals as goal
 pub returns-then-low-z : goal.returns-then-low-z
 returns-then-low-z c = search (rules, between_on)
 
-pub returns : goal.returns
-returns c = search (rules, between_off)
+pub returns-else-low-z : goal.returns-else-low-z
+returns-else-low-z c = search (rules, between_off)

@@ -3,8 +3,8 @@ use Rattle.reader.proofs.Fields.{lists_denied, lists_answered}
 use borrow.Author.Rules.{rules}
 use Rattle.reader.proofs.lists_ok.Goals as goal
 
-pub returns-then-product-count : goal.returns-then-product-count
-returns-then-product-count c = search (rules, given_bytes_lem, lists_denied)
+pub returns-else-from-product : goal.returns-else-from-product
+returns-else-from-product c = search (rules, given_bytes_lem, lists_denied)
 
-pub returns : goal.returns
-returns c = search (rules, given_bytes_lem, lists_answered)
+pub returns-then-from-product : goal.returns-then-from-product
+returns-then-from-product c = search (rules, given_bytes_lem, lists_answered)

@@ -1,18 +1,13 @@
-use Rattle.reader.proofs.Arms.{retransmission_answered}
-use Rattle.format.specs.Range.{fields_ok, length_ok}
+use native.Mathlib.Omega.{arith}
 use Rattle.record.specs.Context.{context_of}
-use Rattle.base.proofs.TestLaws.{tests}
-use Rattle.base.proofs.Branches.{answers}
-use borrow.Author.Rules.{rules}
+use Rattle.format.specs.Range.{fields_ok, length_ok}
+use Rattle.record.proofs.Chains.{chain}
 use Rattle.reader.proofs.retransmission_ok.Goals as goal
 
-pub returns-then-c-sender : goal.returns-then-c-sender
-unfolding fields_ok context_of length_ok
-returns-then-c-sender c = search (rules, tests, answers)
+pub returns-then-length_ok : goal.returns-then-length_ok
+unfolding fields_ok length_ok context_of
+returns-then-length_ok c e b i = let p = c.action_ok.ensures e b i in grind (arith, chain, p)
 
-pub returns-then-not-length_ok : goal.returns-then-not-length_ok
-unfolding fields_ok context_of length_ok
-returns-then-not-length_ok c = search (rules, tests, answers)
-
-pub returns : goal.returns
-returns c = search (rules, retransmission_answered)
+pub returns-else-length_ok : goal.returns-else-length_ok
+unfolding fields_ok length_ok context_of
+returns-else-length_ok c e b i = grind (arith, chain)

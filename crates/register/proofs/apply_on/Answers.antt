@@ -2,8 +2,8 @@ use Rattle.register.proofs.Exported.{unreadable, operation_applied}
 use borrow.Author.Rules.{rules}
 use Rattle.register.proofs.apply_on.Goals as goal
 
-pub returns-then-number-ne0 : goal.returns-then-number-ne0
-returns-then-number-ne0 c = search (rules, unreadable)
+pub returns-in_err-check_register : goal.returns-in_err-check_register
+returns-in_err-check_register c = search (rules, unreadable)
 
 pub returns : goal.returns
 returns c = search (rules, operation_applied)

@@ -8,6 +8,3 @@ use Rattle.install.proofs.passes.turn_rest.Given as goal
 abbrev pub invariant-loop-c : goal.invariant-loop-c
 invariant-loop-c l =
     (l.c ≤ l.n) × (length l.state ≡ length l.initial.state) × Turned (ids_up_to 0 (take l.c (log_in l.initial.state).cuts)) l.initial.state l.places l.state
-
-abbrev pub decreases-loop-c : goal.decreases-loop-c
-decreases-loop-c l = l.n - l.c

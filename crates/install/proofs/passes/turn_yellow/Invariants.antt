@@ -7,6 +7,3 @@ use Rattle.install.proofs.passes.turn_yellow.Given as goal
 abbrev pub invariant-loop-j : goal.invariant-loop-j
 invariant-loop-j l =
     (l.j ≤ l.count) × (length l.state ≡ length l.initial.state) × Turned (take l.j (yellows_in l.initial.state)) l.initial.state l.places l.state
-
-abbrev pub decreases-loop-j : goal.decreases-loop-j
-decreases-loop-j l = l.count - l.j

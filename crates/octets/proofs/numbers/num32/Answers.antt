@@ -1,6 +1,6 @@
-use Rattle.octets.proofs.NumberLaws.{four_read}
-use borrow.Author.Rules.{rules}
+use mathlib.Core.Path.{sym, ◌∙◌}
+use Rattle.base.proofs.BytesLaws.{number4}
 use Rattle.octets.proofs.numbers.num32.Goals as goal
 
 pub returns : goal.returns
-returns c = search (rules, four_read)
+returns c = c.from_be_bytes.ensures ∙ sym (number4 c.args.e.now c.args.at)

@@ -1,12 +1,9 @@
-use Rattle.queue.proofs.RedLaws.{next_room, red_passed, red_taken}
-use borrow.Author.Rules.{rules}
+use Rattle.queue.proofs.RedLaws.{red_passed, red_taken}
+use native.Mathlib.Omega.{arith}
 use Rattle.queue.proofs.entering.red.Goals as goal
 
-pub returns-then-cut-head : goal.returns-then-cut-head
-returns-then-cut-head c = search (rules, red_passed)
+pub returns-then-from : goal.returns-then-from
+returns-then-from c = red_taken _ _ _ _ c.num16-cut.ensures (omega arith) _ c.enter.ensures
 
-pub enter-requires : goal.enter-requires
-enter-requires c = search (rules, next_room)
-
-pub returns : goal.returns
-returns c = search (rules, red_taken)
+pub returns-else-from : goal.returns-else-from
+returns-else-from c = red_passed _ _ _ _ c.num16-cut.ensures (λ g. c.if-from.false (omega arith))

@@ -1,9 +1,5 @@
 use Rattle.queue.proofs.WhiteLaws.{Summed}
-use Prim.Native.Nat.{◌-◌}
 use Rattle.queue.proofs.history.entered_count.Given as goal
 
 abbrev pub invariant-loop-k : goal.invariant-loop-k
 invariant-loop-k l = Summed l.state l.servers l.total l.k
-
-abbrev pub decreases-loop-k : goal.decreases-loop-k
-decreases-loop-k l = l.servers - l.k

@@ -5,5 +5,5 @@ use Rattle.record.proofs.range.inside_last.Goals as goal
 pub returns-then-c-eq0 : goal.returns-then-c-eq0
 returns-then-c-eq0 c = search (rules, inside_none)
 
-pub returns : goal.returns
-returns c = search (rules, inside_some)
+pub returns-else-c-eq0 : goal.returns-else-c-eq0
+returns-else-c-eq0 c = search (rules, inside_some)

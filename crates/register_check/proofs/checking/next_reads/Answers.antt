@@ -1,12 +1,12 @@
-use Rattle.register_check.proofs.CheckCode.{tested_next, next_denied, next_answered}
+use Rattle.register_check.proofs.CheckCode.{next_answered, next_denied, tested_next}
 use borrow.Author.Rules.{rules}
 use Rattle.register_check.proofs.checking.next_reads.Goals as goal
-
-pub returns-then-not-slot_reads : goal.returns-then-not-slot_reads
-returns-then-not-slot_reads c = search (rules, next_denied)
 
 pub rises-requires : goal.rises-requires
 rises-requires c = search (rules, tested_next)
 
-pub returns : goal.returns
-returns c = search (rules, next_answered)
+pub returns-then-slot_reads : goal.returns-then-slot_reads
+returns-then-slot_reads c = search (rules, next_answered)
+
+pub returns-else-slot_reads : goal.returns-else-slot_reads
+returns-else-slot_reads c = search (rules, next_denied)

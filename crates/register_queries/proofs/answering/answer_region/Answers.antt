@@ -1,12 +1,12 @@
-use Rattle.register_queries.proofs.Answers.{region-held, region-room, region-collected, region-left}
+use Rattle.register_queries.proofs.Answers.{left_buffers, left_sides, all_collected}
 use borrow.Author.Rules.{rules}
 use Rattle.register_queries.proofs.answering.answer_region.Goals as goal
 
-pub collect-requires : goal.collect-requires
-collect-requires c = search (rules, region-held, region-room)
+pub returns-in_err-held : goal.returns-in_err-held
+returns-in_err-held c = search (rules, left_buffers)
 
-pub returns-then-number-eq0 : goal.returns-then-number-eq0
-returns-then-number-eq0 c = search (rules, region-collected)
+pub returns-in_err-check_sides : goal.returns-in_err-check_sides
+returns-in_err-check_sides c = search (rules, left_sides)
 
-pub returns-else-number-eq0 : goal.returns-else-number-eq0
-returns-else-number-eq0 c = search (rules, region-left)
+pub returns : goal.returns
+returns c = search (rules, all_collected)

@@ -10,14 +10,11 @@ loop-k-init c = search (rules, along_starts)
 pub green_slot-requires : goal.green_slot-requires
 green_slot-requires c = search (rules, along_inside)
 
-pub apply_slot-refused-requires : goal.apply_slot-refused-requires
-apply_slot-refused-requires c = search (rules, slot_inside)
+pub is_refused-requires : goal.is_refused-requires
+is_refused-requires c = search (rules, slot_inside)
 
 pub overflow_add-refused : goal.overflow_add-refused
 overflow_add-refused c = search (rules, one_more_lem)
-
-pub loop-k-smaller : goal.loop-k-smaller
-loop-k-smaller c = omega arith
 
 pub loop-k-preserved : goal.loop-k-preserved
 loop-k-preserved c = search (rules, along_on, given_bytes_lem)

@@ -1,16 +1,19 @@
+use mathlib.Core.Path.{refl}
+use Rattle.replication.specs.Machine.Step.{one_more}
+use Rattle.image.specs.Header.{header_of}
 use Rattle.image.proofs.InPlace.{such_header}
-use Rattle.updates.proofs.ExchangeLaws.{come_low, one_more_come_lem}
-use borrow.Author.Rules.{rules}
+use Rattle.updates.proofs.ExchangeLaws.{come_low}
+use Rattle.updates.proofs.MembershipLaws.{change_made, membership_kept}
 use Rattle.updates.proofs.exchanges.one_more.Goals as goal
+use native.Mathlib.Omega.{arith}
+use borrow.Author.Rules.{rules}
 
-pub load-h-requires : goal.load-h-requires
-load-h-requires c = search (rules, such_header)
+pub change-requires-clause-room : goal.change-requires-clause-room
+change-requires-clause-room c = search (rules, such_header)
 
-pub with_one_more-t-requires : goal.with_one_more-t-requires
-with_one_more-t-requires c = search (rules, come_low)
-
-pub save_numbers-requires : goal.save_numbers-requires
-save_numbers-requires c = search (rules, such_header)
+pub change-requires-clause-callable : goal.change-requires-clause-callable
+change-requires-clause-callable c = λ x y z. let h = come_low c.args.state.now _ c.requires refl in record { fits = omega (arith, h) }
 
 pub returns : goal.returns
-returns c = one_more_come_lem _ _ _ _ c.load-h.ensures c.with_one_more-t.ensures c.save_numbers.ensures
+unfolding one_more header_of
+returns c = change_made one_more _ _ (λ s. refl) (λ s. membership_kept s _ refl) c.change.ensures.0 (λ s f. search (rules, f, c.change.ensures.1)) c.change.ensures.2

@@ -1,5 +1,10 @@
-use Rattle.updates.proofs.ExchangeLaws.{none_come}
+use mathlib.Core.Path.{refl}
+use Rattle.replication.specs.Machine.Step.{resending}
+use Rattle.image.specs.Header.{header_of, mode_number}
+use borrow.Author.Rules.{rules}
+use Rattle.updates.proofs.MembershipLaws.{change_made, membership_kept}
 use Rattle.updates.proofs.exchanges.resend.Goals as goal
 
 pub returns : goal.returns
-returns c = none_come _ _ _ _ c.load-h.ensures c.with_none_come-t.ensures c.save_numbers.ensures
+unfolding resending header_of mode_number
+returns c = change_made resending _ _ (λ s. refl) (λ s. membership_kept s _ refl) c.change.ensures.0 (λ s f. search (rules, f, c.change.ensures.1)) c.change.ensures.2

@@ -1,5 +1,10 @@
-use Rattle.updates.proofs.MembershipLaws.{cpc_added_lem}
+use mathlib.Core.Path.{refl}
+use Rattle.replication.specs.Machine.Step.{with_cpc}
+use Rattle.image.specs.Header.{header_of}
+use borrow.Author.Rules.{rules}
+use Rattle.updates.proofs.MembershipLaws.{change_made, membership_kept}
 use Rattle.updates.proofs.membership.add_cpc.Goals as goal
 
 pub returns : goal.returns
-returns c = cpc_added_lem _ _ _ _ _ c.load-h.ensures c.with_cpc-t.ensures c.save_numbers.ensures
+unfolding with_cpc header_of
+returns c = change_made (with_cpc _) _ _ (λ s. refl) (λ s. membership_kept s _ refl) c.change.ensures.0 (λ s f. search (rules, f, c.change.ensures.1)) c.change.ensures.2

@@ -17,21 +17,6 @@ num32-low-requires c = search (rules, first_inside)
 pub loop-k-init : goal.loop-k-init
 loop-k-init c = search (rules, some_noted, noted_inside, least_start)
 
-pub overflow_mul-k : goal.overflow_mul-k
-overflow_mul-k c = omega arith
-
-pub overflow_add-at : goal.overflow_add-at
-overflow_add-at c = omega arith
-
-pub num32-length-requires : goal.num32-length-requires
-num32-length-requires c = omega arith
-
-pub overflow_add-k : goal.overflow_add-k
-overflow_add-k c = omega arith
-
-pub loop-k-smaller : goal.loop-k-smaller
-loop-k-smaller c = omega arith
-
 pub loop-k-preserved : goal.loop-k-preserved
 loop-k-preserved c = search (rules, least_again)
 

@@ -9,6 +9,3 @@ use Rattle.updates.proofs.notes.least_noted.Given as goal
 abbrev pub invariant-loop-k : goal.invariant-loop-k
 invariant-loop-k l =
     (l.k ≤ l.servers) × (l.at + 4 * l.servers ≤ length l.state) × (least (numbers_at 4 l.servers l.state l.at) ≡ least (l.low ∷ numbers_at 4 (l.servers - l.k) l.state (l.at + 4 * l.k)))
-
-abbrev pub decreases-loop-k : goal.decreases-loop-k
-decreases-loop-k l = l.servers - l.k

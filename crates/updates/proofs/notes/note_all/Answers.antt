@@ -8,19 +8,13 @@ pub num8-n-requires : goal.num8-n-requires
 num8-n-requires c = search (rules, front_some)
 
 pub loop-k-init : goal.loop-k-init
-loop-k-init c = (omega arith, refl, note_start _)
+loop-k-init c = (refl, note_start _)
 
 pub note_state-requires : goal.note_state-requires
-note_state-requires c = search (rules, note_room, c.loop-k.invariant.2)
-
-pub overflow_add-k : goal.overflow_add-k
-overflow_add-k c = omega arith
-
-pub loop-k-smaller : goal.loop-k-smaller
-loop-k-smaller c = omega arith
+note_state-requires c = search (rules, note_room, c.loop-k.invariant.1)
 
 pub loop-k-preserved : goal.loop-k-preserved
-loop-k-preserved c = (omega arith, search rules, note_turn _ _ _ _ _ c.num8-n.ensures c.loop-k-test.true c.loop-k.invariant.2 c.note_state.ensures)
+loop-k-preserved c = (search rules, note_turn _ _ _ _ _ c.num8-n.ensures c.loop-k-test.true c.loop-k.invariant.1 c.note_state.ensures)
 
 pub returns : goal.returns
-returns c = search (rules, note_end, c.loop-k.invariant.2)
+returns c = search (rules, note_end, c.loop-k.invariant.1)

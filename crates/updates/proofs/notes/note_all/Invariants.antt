@@ -9,7 +9,4 @@ use Rattle.updates.proofs.notes.note_all.Given as goal
 
 abbrev pub invariant-loop-k : goal.invariant-loop-k
 invariant-loop-k l =
-    (l.k ≤ l.n) × (length l.state ≡ length l.initial.state) × ((s : Server) → Holds s l.initial.state → l.state ≡ image (with_noted (note_first l.k s.membership.states s.noted) s) l.initial.state)
-
-abbrev pub decreases-loop-k : goal.decreases-loop-k
-decreases-loop-k l = l.n - l.k
+    (length l.state ≡ length l.initial.state) × ((s : Server) → Holds s l.initial.state → l.state ≡ image (with_noted (note_first l.k s.membership.states s.noted) s) l.initial.state)

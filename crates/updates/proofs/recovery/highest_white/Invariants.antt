@@ -9,6 +9,3 @@ use Rattle.updates.proofs.recovery.highest_white.Given as goal
 abbrev pub invariant-loop-k : goal.invariant-loop-k
 invariant-loop-k l =
     (l.k ≤ l.own) × (l.at + slot_size * l.own ≤ length l.state) × (highest_white (actions_at l.own l.state l.at) ≡ max l.high (highest_white (actions_at (l.own - l.k) l.state (l.at + slot_size * l.k))))
-
-abbrev pub decreases-loop-k : goal.decreases-loop-k
-decreases-loop-k l = l.own - l.k

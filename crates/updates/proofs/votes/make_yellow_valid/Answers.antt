@@ -1,5 +1,13 @@
-use Rattle.updates.proofs.MembershipLaws.{made_valid_lem}
+use mathlib.Core.Path.{refl}
+use Rattle.base.proofs.Prefixes.{begins_refl}
+use Rattle.replication.specs.Machine.Types.{with_votes}
+use Rattle.replication.specs.Machine.Step.{yellow_valid}
+use Rattle.image.specs.Header.{header_of}
+use borrow.Author.Rules.{rules}
+use Rattle.updates.proofs.MembershipLaws.{change_made, votes_kept}
 use Rattle.updates.proofs.votes.make_yellow_valid.Goals as goal
 
 pub returns : goal.returns
-returns c = made_valid_lem _ _ _ _ c.load-h.ensures c.with_valid-t.ensures c.save_numbers.ensures
+unfolding yellow_valid header_of
+returns c =
+    change_made (λ s. with_votes (yellow_valid s.votes) s) _ _ (λ s. refl) (λ s. votes_kept s _ (begins_refl _)) c.change.ensures.0 (λ s f. search (rules, f, c.change.ensures.1)) c.change.ensures.2

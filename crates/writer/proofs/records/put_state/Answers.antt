@@ -13,7 +13,7 @@ pub slice_bounds-copy-end-2 : goal.slice_bounds-copy-end-2
 slice_bounds-copy-end-2 c = search (rules, ids_given)
 
 pub copy-requires-2 : goal.copy-requires-2
-copy-requires-2 c = ids_fit _ _ _ _ c.requires _ (search rules)
+copy-requires-2 c = rw (c.from-n.ensures, c.from-m.ensures) (ids_fit _ _ _ _ c.requires _ (search rules))
 
 pub returns : goal.returns
 unfolding kind_number

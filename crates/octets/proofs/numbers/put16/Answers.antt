@@ -1,0 +1,9 @@
+use mathlib.Core.List.{List}
+use mathlib.Core.Path.{sym, ap, ◌∙◌}
+use Prim.Native.Nat.{ℕ}
+use Rattle.base.specs.Patched.{patched}
+use Rattle.base.proofs.BytesLaws.{bytes2}
+use Rattle.octets.proofs.numbers.put16.Goals as goal
+
+pub returns : goal.returns
+returns c = c.copy.ensures ∙ ap (λ (b : List ℕ). patched c.args.at b c.args.out.now) (c.to_be_bytes.ensures ∙ sym (bytes2 c.args.v))
