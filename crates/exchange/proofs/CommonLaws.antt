@@ -22,14 +22,14 @@ use Rattle.replication.specs.Machine.Types.{no_yellow}
 use Rattle.replication.specs.Machine.Exchange.{common_yellow, taken_yellow}
 use Rattle.record.specs.declared.events.StateHead.{StateHead}
 use Rattle.exchange.specs.declared.slots.Slots.{Slots}
-use Rattle.exchange.specs.Slots.{First, with_here, slot_at, state_in, states_left, states_of, head_of}
+use Rattle.exchange.specs.Folds.{FirstAt}
+use Rattle.exchange.specs.Slots.{with_here, slot_at, state_in, states_left, states_of, head_of}
 use Rattle.exchange.specs.Passing.{Voters}
 use Rattle.exchange.specs.Table.{place_in, sought_in, Sought, is_kept, kept_ids, Listed, RaisedBy, ids_in, ListInside, ListsInside, ListFits, ListsFit}
 use Rattle.exchange.proofs.PlaceLaws.{place_has}
 use Rattle.exchange.proofs.TableLaws.{table_decides}
 use Rattle.exchange.proofs.RaiseLaws.{ids_read, ids_counted}
-use Rattle.exchange.proofs.SlotLaws.{states_in_lem, states_end}
-use Rattle.exchange.proofs.YellowLaws.{same_servers, voters_states}
+use Rattle.exchange.proofs.YellowLaws.{voters_none, voters_some}
 use Rattle.format.specs.Places.{id_size, state_head_size}
 
 ids_drop : (m : ℕ) (e : List ℕ) (p at : ℕ) → ids_at m (drop p e) at ≡ ids_at m e (p + at)
@@ -107,47 +107,40 @@ kept_common l ys few =
 
 -- ---- those of the updated group
 
-pub voters_fit : (v w : Slots) (b o : List ℕ) (set : ℕ) → Voters v b set → w ≡ with_here set v → ListsFit v b o → ListsFit w b o
+pub voters_fit : (v w : Slots) (b c o : List ℕ) → Voters v b w c → ListsFit v b o → ListsFit w c o
 unfolding ListsFit ListInside with_here slot_at state_in
-voters_fit v w b o set g e f =
-    subst (λ (y : Slots). ListsFit y b o) (sym e)
-    (λ k l y. let z = f k l (g.among k l y) in record { inside = z.inside; short = z.short; few = z.few; differ = z.differ })
-
-pub first_below : (v w : Slots) (set k : ℕ) → w ≡ with_here set v → k < v.servers → k < w.servers
-first_below v w set k e h = rw (same_servers v w set e) h
+voters_fit v w b c o g f =
+    subst (λ (d : List ℕ). ListsFit w d o) (sym g.bytes)
+    (subst (λ (y : Slots). ListsFit y b o) (sym g.slots)
+    (λ k l y. let z = f k l (g.among k l y) in record { inside = z.inside; short = z.short; few = z.few; differ = z.differ }))
 
 pub fits_inside : (v : Slots) (b o : List ℕ) → ListsFit v b o → ListsInside v b
 unfolding ListsFit ListsInside
 fits_inside v b o f k l t = (f k l t).inside
 
-pub first_fits : (v : Slots) (b o : List ℕ) (k : ℕ) → ListsFit v b o → First v k → k < v.servers → ListFits v b o k
+pub first_fits : (v : Slots) (b o : List ℕ) (k : ℕ) → ListsFit v b o → FirstAt v b k → ListFits v b o k
 unfolding ListsFit
-first_fits v b o k f r h = f k h (r.there h)
+first_fits v b o k f r = f k r.low r.meant
 
-pub first_short : (v : Slots) (b o : List ℕ) (k : ℕ) (x : StateHead) → ListsFit v b o → First v k → k < v.servers
-    → x ≡ head_of v b k
-    → id_size * x.yellow_count ≤ length o
-first_short v b o k x f r h e = omega (arith, (first_fits v b o k f r h).short, ids_counted v b k x e)
+pub first_short : (v : Slots) (b o : List ℕ) (k : ℕ) (x : StateHead) → ListsFit v b o → FirstAt v b k → x ≡ head_of v b k → id_size * x.yellow_count ≤ length o
+first_short v b o k x f r e = omega (arith, (first_fits v b o k f r).short, ids_counted v b k x e)
 
-pub taken_ids_none : (v w : Slots) (b : List ℕ) (set k : ℕ) (o : List ℕ) → Voters v b set → w ≡ with_here set v → First w k → v.servers ≤ k
-    → Listed 0 o (taken_yellow (states_of v b)).ids
-unfolding common_yellow no_yellow ids_bytes
-taken_ids_none v w b set k o g e r h =
-    let l : w.servers ≤ k = rw (same_servers v w set e) h in
-    let none : (taken_yellow (states_of v b)).ids ≡ [] = ap (λ (y : Yellow). y.ids) (voters_states v w b set k g e r ∙ ap common_yellow (states_end w b k l)) in
+pub taken_ids_none : (v w : Slots) (b c o : List ℕ) → Voters v b w c → states_of w c ≡ [] → Listed 0 o (taken_yellow (states_of v b)).ids
+unfolding no_yellow ids_bytes
+taken_ids_none v w b c o g e =
+    let none : (taken_yellow (states_of v b)).ids ≡ [] = ap (λ (y : Yellow). y.ids) (voters_none v w b c g e) in
     subst (Listed 0 o) (sym none) (record { count = refl; bytes = refl })
 
-pub taken_ids_some : (v w : Slots) (b : List ℕ) (set k m : ℕ) (o u : List ℕ) → Voters v b set → w ≡ with_here set v → First w k → k < v.servers
-    → Listed m o (kept_ids (ids_in w b k) (states_left w b (k + 1))) → ListsFit v b u → Listed m o (taken_yellow (states_of v b)).ids
+pub taken_ids_some : (v w : Slots) (b c : List ℕ) (k m : ℕ) (o u : List ℕ) → Voters v b w c → FirstAt w c k
+    → Listed m o (kept_ids (ids_in w c k) (states_left w c (k + 1))) → ListsFit v b u → Listed m o (taken_yellow (states_of v b)).ids
 unfolding common_yellow
-taken_ids_some v w b set k m o u g e r h i f =
-    let l : k < w.servers = first_below v w set k e h in
-    let fits : ListsFit w b u = voters_fit v w b u set g e f in
+taken_ids_some v w b c k m o u g r i f =
+    let fits : ListsFit w c u = voters_fit v w b c u g f in
     subst (Listed m o)
-    (kept_common (ids_in w b k) (states_left w b (k + 1)) (first_fits w b u k fits r l).few
-    ∙ sym (ap (λ (y : Yellow). y.ids) (voters_states v w b set k g e r ∙ ap common_yellow (states_in_lem w b k l (r.there l)))))
+    (kept_common (ids_in w c k) (states_left w c (k + 1)) (first_fits w c u k fits r).few
+    ∙ sym (ap (λ (y : Yellow). y.ids) (voters_some v w b c g k r)))
     i
 
-pub first_sought : (v : Slots) (b : List ℕ) (k at : ℕ) (x : StateHead) (o : List ℕ) → ListsFit v b o → First v k → k < v.servers → x ≡ head_of v b k
+pub first_sought : (v : Slots) (b : List ℕ) (k at : ℕ) (x : StateHead) (o : List ℕ) → ListsFit v b o → FirstAt v b k → x ≡ head_of v b k
     → at ≡ slot_at v k → Sought x.yellow_count (lent v b at)
-first_sought v b k at x o f r l h e = lent_sought v b k at x h e o (first_fits v b o k f r l)
+first_sought v b k at x o f r h e = lent_sought v b k at x h e o (first_fits v b o k f r)

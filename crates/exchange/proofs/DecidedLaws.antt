@@ -1,9 +1,11 @@
 -- The decisions read from a buffer that holds a state are the machine's.
 use Prim.Native.Nat.{ℕ, ◌*◌, ◌≤◌, ◌<◌}
 use mathlib.Core.Path.{◌≡◌, refl, sym, ap, ap₂, subst, ◌∙◌}
-use mathlib.Core.Bool.{Bool}
+use mathlib.Core.Bool.{Bool, true, false}
 use mathlib.Core.List.{List}
-use mathlib.Core.Option.{Option, none, some}
+use mathlib.Core.Option.{Option as MaybeConfiguration, none, some}
+use Rattle.std.specs.Prelude.{Option, Some, None}
+use Rattle.base.proofs.TestLaws.{pick_yes, pick_no}
 use native.Mathlib.Omega.{arith}
 use lib.ListN.{length}
 use Rattle.format.specs.Limits.{most_ids}
@@ -17,7 +19,7 @@ use Rattle.record.specs.declared.LastPrimary.{LastPrimary}
 use Rattle.record.specs.declared.Mark.{Mark}
 use Rattle.record.specs.declared.State.{State as Numbers}
 use Rattle.replication.specs.Machine.Types.{Configuration, Server, context_of}
-use Rattle.replication.specs.Machine.Plan.{highest, lowest, resender, planned, is_me, cut_in, green_in}
+use Rattle.replication.specs.Machine.Plan.{highest, lowest, resender, planned, is_me}
 use Rattle.replication.specs.Machine.Exchange.{taken_primary, taken_attempt, taken_yellow, own_mark, quorum, taken_votes}
 use Rattle.replication.specs.Machine.Step.{the_set, here_set, collected, all_states_in, all_cpcs_in, planned_now}
 use Rattle.image.specs.Layout.{SizesIn, at_me, at_configuration_set, at_states, at_cpcs}
@@ -26,22 +28,20 @@ use Rattle.image.proofs.HeaderLaws.{header_loaded}
 use Rattle.image.specs.Holding.{Holds, HoldsSuch, Computes}
 use Rattle.image.proofs.InRange.{in_range}
 use Rattle.exchange.specs.declared.slots.Slots.{Slots}
-use Rattle.exchange.specs.declared.plan.Number.TheVariants.{Green, Cut}
-use Rattle.exchange.specs.declared.decided.Part.{Part}
+use Rattle.exchange.specs.declared.plan.Part.{Part}
 use Rattle.exchange.specs.declared.decided.TakenVotes.{TakenVotes}
 use Rattle.exchange.specs.Slots.{Space, Room, slots_of, slots_in, states_of}
-use Rattle.exchange.specs.Numbers.{number_in, Within}
 use Rattle.exchange.specs.Table.{Listed, ListsFit}
-use Rattle.exchange.specs.Decided.{votes_numbers, part_of}
+use Rattle.exchange.specs.Decided.{votes_numbers}
+use Rattle.exchange.specs.Plan.{part_of}
 use Rattle.exchange.proofs.Collected.{collected_slots}
 use Rattle.exchange.proofs.RoomLaws.{holds_room, all_states_in_lem}
 use Rattle.exchange.proofs.ListLaws.{holds_fit}
-use Rattle.exchange.proofs.ResendLaws.{cut_within}
 use Rattle.format.specs.Places.{id_size}
 
 -- ---- the header's numbers
 
-set_same : (d : Option Configuration) → set_of d ≡ the_set d
+set_same : (d : MaybeConfiguration Configuration) → set_of d ≡ the_set d
 unfolding set_of the_set
 set_same none = refl
 set_same (some d) = refl
@@ -90,61 +90,50 @@ module _ (P : Server → Type 0) (b : List ℕ) (such : HoldsSuch P b) where
       (record { fewest = z.sizes.fewest; most = z.sizes.most; least = z.sizes.least; largest = z.sizes.highest; own = z.own })
 
   module _ (v : Slots) (held : Computes slots_in b v) where
-    pub room_held : Room v b
-    room_held = subst (λ (y : Slots). Room y b) (sym (held such.state such.holds)) (holds_room such.state b such.holds)
+    pub room_held : (c : List ℕ) → c ≡ b → Room v c
+    room_held c e = subst (Room v) (sym e) (subst (λ (y : Slots). Room y b) (sym (held such.state such.holds)) (holds_room such.state b such.holds))
 
-    pub space_held : Space v b
-    space_held = room_held.space
-
-    servers_held : v.servers ≡ such.state.servers
+    pub servers_held : v.servers ≡ such.state.servers
     unfolding slots_in slots_of
     servers_held = ap (λ (y : Slots). y.servers) (held such.state such.holds)
 
-    pub own_below : (me : ℕ) → me ≡ number_at 1 b at_me → me < v.servers
-    unfolding context_of
-    own_below me e =
-        omega (arith, e, servers_held, own_read such.state b such.holds, (in_range such.state such.holds.formed).context.own)
+    pub lists_held : (c o : List ℕ) → c ≡ b → id_size * most_ids ≤ length o → ListsFit v c o
+    lists_held c o e l =
+        subst (λ (y : List ℕ). ListsFit v y o) (sym e)
+        (subst (λ (y : Slots). ListsFit y b o) (sym (held such.state such.holds)) (holds_fit such.state b such.holds o l))
 
-    pub lists_held : (o : List ℕ) → id_size * most_ids ≤ length o → ListsFit v b o
-    lists_held o l = subst (λ (y : Slots). ListsFit y b o) (sym (held such.state such.holds)) (holds_fit such.state b such.holds o l)
+  pub space_slots : (x : Numbers) → x ≡ header_in b → Space (slots_of x.servers x.quota x.states) b
+  unfolding header_of slots_in
+  space_slots x e =
+      subst (λ (y : Numbers). Space (slots_of y.servers y.quota y.states) b) (sym (header_same x e)) (holds_room such.state b such.holds).space
 
-pub red_within : (b : List ℕ) (v : Slots) (c : ℕ) → HoldsSuch (λ s. c < s.servers) b → Computes slots_in b v → Within v.servers (Cut c)
-red_within b v c such held = cut_within v.servers c (omega (arith, such.fact, servers_held _ b such v held))
+pub red_below : (b : List ℕ) (v : Slots) (c : ℕ) → HoldsSuch (λ s. c < s.servers) b → Computes slots_in b v → c < v.servers
+red_below b v c such held = omega (arith, such.fact, servers_held _ b such v held)
 
 pub slots_told : (b : List ℕ) (x : Numbers) (v : Slots) → x ≡ header_in b → v ≡ slots_of x.servers x.quota x.states → Computes slots_in b v
 unfolding header_of slots_in
 slots_told b x v e f s h = f ∙ ap (λ (y : Numbers). slots_of y.servers y.quota y.states) (e ∙ header_loaded s b h)
 
-module _ (b : List ℕ) (v : Slots) (held : Computes slots_in b v) where
-  states_held : (s : Server) → Holds s b → states_of v b ≡ collected s
-  states_held s h = ap (λ (y : Slots). states_of y b) (held s h) ∙ collected_slots s b h
+module _ (b c : List ℕ) (v : Slots) (held : Computes slots_in b v) (same : c ≡ b) where
+  states_held : (s : Server) → Holds s b → states_of v c ≡ collected s
+  states_held s h = ap (states_of v) same ∙ ap (λ (y : Slots). states_of y b) (held s h) ∙ collected_slots s b h
 
-  pub planned_told : (r : ℕ) → r ≡ planned v.servers (states_of v b) → Computes planned_now b r
+  pub planned_told : (r : ℕ) → r ≡ planned v.servers (states_of v c) → Computes planned_now b r
   unfolding planned_now slots_in slots_of
   planned_told r e s h =
       e ∙ ap₂ {A = ℕ} {B = List State} {C = ℕ} (λ n xs. planned n xs) (ap (λ (y : Slots). y.servers) (held s h)) (states_held s h)
 
-  pub quorum_told : (here : ℕ) (r : Bool) → here ≡ number_at 1 b at_configuration_set → r ≡ quorum (states_of v b) here
+  pub quorum_told : (here : ℕ) (r : Bool) → here ≡ number_at 1 b at_configuration_set → r ≡ quorum (states_of v c) here
       → Computes (λ s. quorum (collected s) (here_set s)) b r
   quorum_told here r e g s h =
       g ∙ ap₂ {A = List State} {B = ℕ} {C = Bool} (λ xs m. quorum xs m) (states_held s h) (e ∙ here_read s b h)
 
-  part_told : (g : State → ℕ) (me : ℕ) (r : Part) → me ≡ number_at 1 b at_me → r ≡ part_of g me (states_of v b)
+  pub part_told : (g : State → ℕ) (me : ℕ) (r : Option Part) → me ≡ number_at 1 b at_me → r ≡ part_of g me (states_of v c)
       → Computes (λ s. part_of g s.me (collected s)) b r
-  part_told g me r e i s h = i ∙ ap₂ {A = ℕ} {B = List State} {C = Part} (λ m xs. part_of g m xs) (e ∙ own_read s b h) (states_held s h)
+  part_told g me r e i s h = i ∙ ap₂ {A = ℕ} {B = List State} {C = Option Part} (λ m xs. part_of g m xs) (e ∙ own_read s b h) (states_held s h)
 
-  pub green_told : (me : ℕ) (r : Part) → me ≡ number_at 1 b at_me → r ≡ part_of (number_in Green) me (states_of v b)
-      → Computes (λ s. part_of green_in s.me (collected s)) b r
-  unfolding number_in
-  green_told me r e i = part_told green_in me r e i
-
-  pub red_told : (me c : ℕ) (r : Part) → me ≡ number_at 1 b at_me → r ≡ part_of (number_in (Cut c)) me (states_of v b)
-      → Computes (λ s. part_of (cut_in c) s.me (collected s)) b r
-  unfolding number_in
-  red_told me c r e i = part_told (cut_in c) me r e i
-
-  pub votes_told : (me a y : ℕ) (p : LastPrimary) (m : Mark) → me ≡ number_at 1 b at_me → primary_of p ≡ taken_primary (states_of v b)
-      → mark_of m ≡ own_mark me (states_of v b) (states_of v b) → a ≡ taken_attempt (states_of v b) → y ≡ (taken_yellow (states_of v b)).status
+  pub votes_told : (me a y : ℕ) (p : LastPrimary) (m : Mark) → me ≡ number_at 1 b at_me → primary_of p ≡ taken_primary (states_of v c)
+      → mark_of m ≡ own_mark me (states_of v c) (states_of v c) → a ≡ taken_attempt (states_of v c) → y ≡ (taken_yellow (states_of v c)).status
       → Computes {A = TakenVotes} (λ s. votes_numbers (taken_votes s.me (collected s))) b
       (record { last = p; attempt = record { 0 = a }; mark = m; yellow_status = y })
   unfolding votes_numbers taken_votes last_of mark_numbers primary_of mark_of
@@ -152,12 +141,29 @@ module _ (b : List ℕ) (v : Slots) (held : Computes slots_in b v) where
       (λ z. record { last = last_of (i z); attempt = record { 0 = k z }; mark = mark_numbers (j z); yellow_status = l z })
       ∙ ap₂ {A = ℕ} {B = List State} {C = TakenVotes} (λ n xs. votes_numbers (taken_votes n xs)) (e ∙ own_read s b h) (states_held s h)
 
-  pub yellow_told : (r : ℕ) (o : List ℕ) → Listed r o (taken_yellow (states_of v b)).ids → (s : Server) → Holds s b
+  pub yellow_told : (r : ℕ) (o : List ℕ) → Listed r o (taken_yellow (states_of v c)).ids → (s : Server) → Holds s b
       → Listed r o (taken_yellow (collected s)).ids
   yellow_told r o i s h = subst (λ (xs : List State). Listed r o (taken_yellow xs).ids) (states_held s h) i
 
-pub part_made : (g : State → ℕ) (me : ℕ) (xs : List State) (t : Bool) (low high : ℕ) → t ≡ is_me me (resender g xs) → low ≡ lowest g xs
+-- The States that are judged are those.
+pub taken_held : (v w : Slots) (c d : List ℕ) (p : LastPrimary) → w ≡ v → d ≡ c → primary_of p ≡ taken_primary (states_of w d)
+    → primary_of p ≡ taken_primary (states_of v c)
+taken_held v w c d p e f h = h ∙ (λ i. taken_primary (states_of (e i) (f i)))
+
+pub quorum_held : (v w : Slots) (c d : List ℕ) (here : ℕ) (r : Bool) → w ≡ v → d ≡ c → r ≡ quorum (states_of w d) here → r ≡ quorum (states_of v c) here
+quorum_held v w c d here r e f h = h ∙ (λ i. quorum (states_of (e i) (f i)) here)
+
+pub own_held : (v w : Slots) (c d : List ℕ) (me : ℕ) (m : Mark) → w ≡ v → d ≡ c → mark_of m ≡ own_mark me (states_of w d) (states_of w d)
+    → mark_of m ≡ own_mark me (states_of v c) (states_of v c)
+own_held v w c d me m e f h = h ∙ (λ i. own_mark me (states_of (e i) (f i)) (states_of (e i) (f i)))
+
+pub part_made : (g : State → ℕ) (me : ℕ) (xs : List State) (t : Bool) (low high : ℕ) → t ≡ is_me me (resender g xs) → t ≡ true → low ≡ lowest g xs
     → high ≡ highest g xs
-    → ◌≡◌ {A = Part} (record { mine = t; low = low; high = high }) (part_of g me xs)
+    → ◌≡◌ {A = Option Part} (Some (record { low = low; high = high })) (part_of g me xs)
 unfolding part_of
-part_made g me xs t low high e f h = λ i. record { mine = e i; low = f i; high = h i }
+part_made g me xs t low high e y f h = pick_yes _ _ _ _ (sym e ∙ y) (λ i. Some (record { low = f i; high = h i }))
+
+pub part_none : (g : State → ℕ) (me : ℕ) (xs : List State) (t : Bool) → t ≡ is_me me (resender g xs) → t ≡ false
+    → ◌≡◌ {A = Option Part} None (part_of g me xs)
+unfolding part_of
+part_none g me xs t e n = pick_no _ _ _ _ (sym e ∙ n) refl

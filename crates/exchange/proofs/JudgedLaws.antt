@@ -1,16 +1,15 @@
 -- What is left of each mark, and the quorum.
-use Prim.Native.Nat.{ℕ, zero, suc, ◌+◌, ◌-◌, ◌≤◌, ◌<◌}
+use Prim.Native.Nat.{ℕ, ◌≤◌, ◌<◌}
+use native.Mathlib.Omega.{arith}
 use mathlib.Core.Path.{◌≡◌, refl, sym, ap, ◌∙◌}
 use mathlib.Core.Bool.{Bool, true, false, not}
-use mathlib.Core.List.{List, ◌∷◌}
-use native.Mathlib.Omega.{arith}
+use mathlib.Core.List.{List, [], ◌∷◌}
 use lib.Dec.{eqb, ltb}
-use borrow.Author.Tests.{not-true, not-false}
-use Rattle.base.specs.Tests.{◌and◌, ◌or◌, ◌=?◌, ◌<?◌, pick}
-use Rattle.base.proofs.TestLaws.{pick_yes, pick_no, and_no, and_yes, both_yes, lt_yes, lt_no, eq_yes, eq_no, eq_holds, eq_fails, not_both, Known, known, holds, fails}
+use Rattle.base.specs.Tests.{◌and◌, ◌=?◌, ◌<?◌, pick}
+use Rattle.base.proofs.TestLaws.{pick_yes, pick_no, and_no, and_yes, both_yes, lt_yes, lt_no, eq_yes, eq_no}
 use Rattle.base.proofs.Branches.{told_eq, told_lt, and_answered, and_denied}
-use Rattle.base.specs.Lists.{any}
-use Rattle.base.specs.Sets.{in_set, inside}
+use Rattle.base.specs.Lists.{any, filter}
+use Rattle.base.specs.Sets.{inside}
 use Rattle.format.specs.Limits.{most_index_limit}
 use Rattle.format.specs.Types.{State, Primary, Mark as FormatMark}
 use Rattle.record.specs.Values.{primary_of, mark_of}
@@ -20,10 +19,11 @@ use Rattle.record.specs.declared.events.StateHead.{StateHead}
 use Rattle.replication.specs.Machine.Types.{cleared_mark}
 use Rattle.replication.specs.Machine.Exchange.{rule_a, rule_b, rule_c, joined_bits, kept_mark, judged_mark, mark_left, own_mark, linear_vote, taken_primary, taken_attempt, quorum}
 use Rattle.exchange.specs.declared.slots.Slots.{Slots}
-use Rattle.exchange.specs.Slots.{Room, state_in, states_from, states_of, head_of}
+use Rattle.exchange.specs.Slots.{state_in, states_of, head_of}
+use Rattle.exchange.specs.Folds.{FoundAt}
 use Rattle.exchange.specs.Marks.{with_bits, is_left}
-use Rattle.exchange.proofs.AnyLaws.{any_end, found_now}
-use Rattle.exchange.proofs.MarkLaws.{mark_read, sender_read, status_read}
+use Rattle.exchange.proofs.ReadLaws.{sender_read}
+use Rattle.exchange.proofs.MarkLaws.{mark_read, status_read}
 
 -- ---- conjunctions
 
@@ -108,81 +108,43 @@ module _ (v : Slots) (b : List ℕ) (k : ℕ) (x : StateHead) (r : Mark) (h : x 
 
 -- ---- some mark left
 
-pub left_now : (t u found : Bool) (m : Mark) (xs : List State) (s : State) → u ≡ t → not u ≡ false → found ≡ false → mark_of m ≡ judged_mark xs s
-    → eqb m.status 1 ≡ pick t (found or is_left xs s) found
+pub left_told : (xs : List State) (s : State) (m : Mark) → mark_of m ≡ judged_mark xs s → eqb m.status 1 ≡ is_left xs s
 unfolding is_left mark_of
-left_now t u found m xs s e h i j = found_now t u found _ _ e h i (told_eq m.status 1 ∙ ap (λ (o : FormatMark). o.status =? 1) j)
+left_told xs s m j = told_eq m.status 1 ∙ ap (λ (o : FormatMark). o.status =? 1) j
 
-pub left_end : (v : Slots) (b : List ℕ) (k : ℕ) (found : Bool) → v.servers ≤ k
-    → any (is_left (states_of v b)) (states_of v b) ≡ (found or any (is_left (states_of v b)) (states_from v b (v.servers - k) k))
-    → found ≡ mark_left (states_of v b)
+pub left_made : (xs : List State) (r : Bool) → r ≡ any (is_left xs) xs → r ≡ mark_left xs
 unfolding mark_left is_left
-left_end v b k found h i = sym (any_end (is_left (states_of v b)) v b k found _ h i)
+left_made xs r h = h
 
 -- ---- the own mark
 
-next : (k me : ℕ) → k ≤ me → (k ≡ me → ⊥) → k + 1 ≤ me
-next k me h z = omega arith
+pub sender_told : (v : Slots) (b : List ℕ) (k me : ℕ) (x : StateHead) → x ≡ head_of v b k → eqb x.sender me ≡ ((state_in v b k).sender =? me)
+sender_told v b k me x h = told_eq x.sender me ∙ ap (λ (n : ℕ). n =? me) (sym (sender_read v b k x h))
 
-own_same : (me : ℕ) (xs ys : List State) (s : State) → s.sender ≡ me → own_mark me xs (s ∷ ys) ≡ judged_mark xs s
-unfolding own_mark
-own_same me xs ys s n = sym (pick_yes _ _ _ _ (eq_yes _ _ n) refl)
+unfoldable judged_of : List State → List State → FormatMark
+judged_of xs [] = cleared_mark
+judged_of xs (s ∷ ys) = judged_mark xs s
 
-own_other : (me : ℕ) (xs ys : List State) (s : State) → (s.sender ≡ me → ⊥) → own_mark me xs (s ∷ ys) ≡ own_mark me xs ys
-unfolding own_mark
-own_other me xs ys s n = sym (pick_no _ _ _ _ (eq_no _ _ n) refl)
+judged_pick : (xs : List State) (t : Bool) (s : State) (ys : List State) → judged_of xs (pick t (s ∷ ys) ys) ≡ pick t (judged_mark xs s) (judged_of xs ys)
+unfolding pick judged_of
+judged_pick xs true s ys = refl
+judged_pick xs false s ys = refl
 
-module _ (v : Slots) (b : List ℕ) (xs : List State) (me : ℕ) (room : Room v b) where
-  own_from : (m k : ℕ) → k + m ≤ v.servers → k ≤ me → me < k + m → in_set me v.here ≡ true
-      → own_mark me xs (states_from v b m k) ≡ judged_mark xs (state_in v b me)
-  unfolding states_from
-  own_from zero k l i j t = absurd (omega arith)
-  own_from (suc m) k l i j t = go (known (in_set k v.here)) (known (k =? me)) (λ z. own_from m (k + 1) (omega arith) z (omega arith) t)
-    where
-      go : Known (in_set k v.here) → Known (k =? me) → (k + 1 ≤ me → own_mark me xs (states_from v b m (k + 1)) ≡ judged_mark xs (state_in v b me))
-          → own_mark me xs (states_from v b (suc m) k) ≡ judged_mark xs (state_in v b me)
-      go (holds a) (holds c) more =
-          let z : k ≡ me = eq_holds k me c in
-          ap (own_mark me xs) (sym (pick_yes (in_set k v.here) _ _ _ a refl))
-          ∙ own_same me xs (states_from v b m (k + 1)) (state_in v b k) (room.senders k (omega arith) a ∙ z)
-          ∙ ap (λ (n : ℕ). judged_mark xs (state_in v b n)) z
-      go (holds a) (fails c) more =
-          let z : k ≡ me → ⊥ = eq_fails k me c in
-          ap (own_mark me xs) (sym (pick_yes (in_set k v.here) _ _ _ a refl))
-          ∙ own_other me xs (states_from v b m (k + 1)) (state_in v b k) (λ s. z (sym (room.senders k (omega arith) a) ∙ s))
-          ∙ more (next k me i z)
-      go (fails a) (holds c) more = not_both (sym a ∙ ap (λ (n : ℕ). in_set n v.here) (eq_holds k me c) ∙ t)
-      go (fails a) (fails c) more = ap (own_mark me xs) (sym (pick_no (in_set k v.here) _ _ _ a refl)) ∙ more (next k me i (eq_fails k me c))
+own_first : (me : ℕ) (xs ys : List State) → own_mark me xs ys ≡ judged_of xs (filter (λ s. s.sender =? me) ys)
+unfolding own_mark filter judged_of
+own_first me xs [] = refl
+own_first me xs (s ∷ ys) =
+    ap (pick (s.sender =? me) (judged_mark xs s)) (own_first me xs ys) ∙ sym (judged_pick xs (s.sender =? me) s (filter (λ y. y.sender =? me) ys))
 
-  own_none : (m k : ℕ) → k + m ≤ v.servers → in_set me v.here ≡ false → own_mark me xs (states_from v b m k) ≡ cleared_mark
-  unfolding states_from own_mark
-  own_none zero k l t = refl
-  own_none (suc m) k l t = go (known (in_set k v.here)) (own_none m (k + 1) (omega arith) t)
-    where
-      go : Known (in_set k v.here) → own_mark me xs (states_from v b m (k + 1)) ≡ cleared_mark → own_mark me xs (states_from v b (suc m) k) ≡ cleared_mark
-      go (holds a) more =
-          ap (own_mark me xs) (sym (pick_yes (in_set k v.here) _ _ _ a refl))
-          ∙ own_other me xs (states_from v b m (k + 1)) (state_in v b k)
-          (λ s. not_both (sym t ∙ ap (λ (n : ℕ). in_set n v.here) (sym s ∙ room.senders k (omega arith) a) ∙ a))
-          ∙ more
-      go (fails a) more = ap (own_mark me xs) (sym (pick_no (in_set k v.here) _ _ _ a refl)) ∙ more
-
-pub own_cleared : (v : Slots) (b : List ℕ) (me : ℕ) (r : Mark) (u : Bool) → Room v b → u ≡ in_set me v.here → not u ≡ true → mark_of r ≡ cleared_mark
+pub own_cleared : (v : Slots) (b : List ℕ) (me : ℕ) (r : Mark) → filter (λ s. s.sender =? me) (states_of v b) ≡ [] → mark_of r ≡ cleared_mark
     → mark_of r ≡ own_mark me (states_of v b) (states_of v b)
-unfolding states_of
-own_cleared v b me r u room e h c = c ∙ sym (own_all v b (states_of v b) me room (sym e ∙ not-true u h))
-  where
-    own_all : (v : Slots) (b : List ℕ) (xs : List State) (me : ℕ) → Room v b → in_set me v.here ≡ false → own_mark me xs (states_of v b) ≡ cleared_mark
-    own_all v b xs me room t = own_none v b xs me room v.servers 0 (omega arith) t
+unfolding judged_of
+own_cleared v b me r e c = c ∙ sym (own_first me (states_of v b) (states_of v b) ∙ ap (judged_of (states_of v b)) e)
 
-pub own_judged : (v : Slots) (b : List ℕ) (me : ℕ) (r : Mark) (u : Bool) → Room v b → me < v.servers → u ≡ in_set me v.here → not u ≡ false
-    → mark_of r ≡ judged_mark (states_of v b) (state_in v b me) → mark_of r ≡ own_mark me (states_of v b) (states_of v b)
-unfolding states_of
-own_judged v b me r u room l e h c = c ∙ sym (own_all v b (states_of v b) me room l (sym e ∙ not-false u h))
-  where
-    own_all : (v : Slots) (b : List ℕ) (xs : List State) (me : ℕ) → Room v b → me < v.servers → in_set me v.here ≡ true
-        → own_mark me xs (states_of v b) ≡ judged_mark xs (state_in v b me)
-    own_all v b xs me room l t = own_from v b xs me room v.servers 0 (omega arith) (omega arith) (omega arith) t
+pub own_judged : (v : Slots) (b : List ℕ) (me k : ℕ) (r : Mark) → FoundAt (λ s. s.sender =? me) v b k
+    → mark_of r ≡ judged_mark (states_of v b) (state_in v b k) → mark_of r ≡ own_mark me (states_of v b) (states_of v b)
+unfolding judged_of
+own_judged v b me k r f c = c ∙ sym (own_first me (states_of v b) (states_of v b) ∙ ap (judged_of (states_of v b)) f.states)
 
 -- ---- the quorum
 

@@ -1,4 +1,5 @@
 pub mod SlotLaws
+pub mod FoldLaws
 pub mod Collected
 pub mod ReadLaws
 pub mod PlaceLaws
@@ -7,7 +8,6 @@ pub mod PlanLaws
 pub mod ResendLaws
 pub mod PassingLaws
 pub mod PrimaryLaws
-pub mod AnyLaws
 pub mod MarkLaws
 pub mod JudgedLaws
 pub mod RoomLaws

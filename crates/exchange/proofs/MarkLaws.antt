@@ -1,12 +1,11 @@
 -- Marks judged, computed from the slots.
-use Prim.Native.Nat.{ℕ, ◌+◌, ◌-◌, ◌≤◌, ◌<◌}
+use Prim.Native.Nat.{ℕ, ◌≤◌, ◌<◌}
 use mathlib.Core.Path.{◌≡◌, refl, sym, ap, ap₂, ◌∙◌}
 use mathlib.Core.Bool.{Bool, true, false, not}
-use mathlib.Core.List.{List, ◌∷◌}
+use mathlib.Core.List.{List, [], ◌∷◌}
 use lib.Bits.{bit_or}
 use lib.Dec.{eqb}
-use borrow.Author.Tests.{not-true, not-false}
-use Rattle.base.specs.Tests.{◌or◌, ◌=?◌, pick}
+use Rattle.base.specs.Tests.{◌=?◌, pick}
 use Rattle.base.proofs.TestLaws.{pick_yes, pick_no, and_no, and_yes, lt_yes, lt_no, eq_yes, eq_no}
 use Rattle.base.proofs.Branches.{told_eq, or_yes, or_no, and_answered, and_denied}
 use Rattle.base.specs.Lists.{any, filter}
@@ -19,21 +18,16 @@ use Rattle.record.specs.declared.events.StateHead.{StateHead}
 use Rattle.replication.specs.Machine.Types.{cleared_mark}
 use Rattle.replication.specs.Machine.Exchange.{is_marked, same_attempt_of, rule_a, rule_b, alike, join_bits, joined_bits}
 use Rattle.exchange.specs.declared.slots.Slots.{Slots}
-use Rattle.exchange.specs.Slots.{Room, state_in, states_from, states_of, head_of}
-use Rattle.exchange.specs.Marks.{against, likewise}
-use Rattle.exchange.proofs.SlotLaws.{states_start, fold_again, fold_end}
-use Rattle.exchange.proofs.ReadLaws.{state_stands}
-use Rattle.exchange.proofs.AnyLaws.{any_end}
+use Rattle.exchange.specs.Slots.{state_in, head_of}
+use Rattle.exchange.specs.Folds.{folded}
+use Rattle.exchange.specs.Marks.{against, likewise, joined_with}
+use Rattle.exchange.proofs.ReadLaws.{state_stands, sender_read}
 
 -- ---- a mark read
 
 pub mark_read : (v : Slots) (b : List ℕ) (k : ℕ) (x : StateHead) → x ≡ head_of v b k → (state_in v b k).mark ≡ mark_of x.mark
 unfolding state_of
 mark_read v b k x h = ap (λ (s : State). s.mark) (sym (state_stands v b k x h))
-
-pub sender_read : (v : Slots) (b : List ℕ) (k : ℕ) (x : StateHead) → x ≡ head_of v b k → (state_in v b k).sender ≡ x.sender
-unfolding state_of
-sender_read v b k x h = ap (λ (s : State). s.sender) (sym (state_stands v b k x h))
 
 pub bits_read : (v : Slots) (b : List ℕ) (k : ℕ) (x : StateHead) → x ≡ head_of v b k → (state_in v b k).mark.bits ≡ x.mark.bits
 unfolding mark_of
@@ -48,14 +42,6 @@ unfolding mark_of cleared_mark
 cleared_made = refl
 
 -- ---- two marks
-
-pub attempt_not : (m o : Mark) → (o.index.0 ≡ m.index.0 → ⊥) → false ≡ same_attempt_of (mark_of m) (mark_of o)
-unfolding same_attempt_of mark_of
-attempt_not m o n = and_no _ _ (eq_no _ _ n)
-
-pub attempt_told : (m o : Mark) → o.index.0 ≡ m.index.0 → eqb o.attempt.0 m.attempt.0 ≡ same_attempt_of (mark_of m) (mark_of o)
-unfolding same_attempt_of mark_of
-attempt_told m o e = and_yes _ _ _ (eq_yes _ _ e) (told_eq o.attempt.0 m.attempt.0)
 
 pub like_unmarked : (m o : Mark) → (o.status ≡ 1 → ⊥) → false ≡ likewise (mark_of m) (mark_of o)
 unfolding likewise mark_of
@@ -104,16 +90,12 @@ module _ (v : Slots) (b : List ℕ) (k : ℕ) (m : Mark) (x : StateHead) (u : Bo
   against_told w n z i =
       and_answered u _ _ _ there n (or_no _ _ _ (ap not (status_read v b k x h ∙ eq_yes _ _ z)) (ap not (i ∙ ap (same_attempt_of (mark_of m)) (sym (mark_read v b k x h)))))
 
-pub rule_b_end : (v : Slots) (b : List ℕ) (k : ℕ) (m : Mark) (found : Bool) → v.servers ≤ k
-    → any (against (mark_of m)) (states_of v b) ≡ (found or any (against (mark_of m)) (states_from v b (v.servers - k) k))
-    → (s : State) → s.mark ≡ mark_of m → found ≡ rule_b (states_of v b) s
+-- The State's mark is that of s.
+pub rule_b_made : (xs : List State) (m : Mark) (r : Bool) → r ≡ any (against (mark_of m)) xs → (s : State) → s.mark ≡ mark_of m → r ≡ rule_b xs s
 unfolding rule_b against
-rule_b_end v b k m found h i s e = sym (any_end (against (mark_of m)) v b k found _ h i) ∙ ap (λ (o : FormatMark). any (against o) (states_of v b)) (sym e)
+rule_b_made xs m r h s e = h ∙ ap (λ (o : FormatMark). any (against o) xs) (sym e)
 
 -- ---- joined bits
-
-unfoldable pub join_like : FormatMark → ℕ → List State → ℕ
-join_like m bits xs = join_bits (filter (λ x. likewise m x.mark) xs) bits
 
 join_pick : (t : Bool) (x : State) (xs : List State) (y bits : ℕ) → join_bits (x ∷ xs) bits ≡ join_bits xs y
     → join_bits (pick t (x ∷ xs) xs) bits ≡ join_bits xs (pick t y bits)
@@ -121,47 +103,31 @@ unfolding pick
 join_pick true x xs y bits e = e
 join_pick false x xs y bits e = refl
 
-join_step : (m : FormatMark) (bits : ℕ) (x : State) (xs : List State)
-    → join_like m bits (x ∷ xs) ≡ join_like m (pick (likewise m x.mark) (with_member x.sender (union bits x.mark.bits)) bits) xs
-unfolding join_like filter join_bits
-join_step m bits x xs = join_pick (likewise m x.mark) x (filter (λ y. likewise m y.mark) xs) (with_member x.sender (union bits x.mark.bits)) bits refl
+join_folded : (m : FormatMark) (xs : List State) (bits : ℕ) → folded (joined_with m) bits xs ≡ join_bits (filter (λ x. likewise m x.mark) xs) bits
+unfolding folded filter join_bits
+join_folded m [] bits = refl
+join_folded m (x ∷ xs) bits =
+    join_folded m xs (joined_with m bits x)
+    ∙ sym (join_pick (likewise m x.mark) x (filter (λ y. likewise m y.mark) xs) (with_member x.sender (union bits x.mark.bits)) bits refl)
 
-pub join_start : (v : Slots) (b : List ℕ) (m : Mark)
-    → join_like (mark_of m) m.bits (states_of v b) ≡ join_like (mark_of m) m.bits (states_from v b (v.servers - 0) 0)
-join_start v b m = ap (join_like (mark_of m) m.bits) (states_start v b)
-
-pub join_again : (v : Slots) (b : List ℕ) (k : ℕ) (m : Mark) (bits r w : ℕ) → k < v.servers
-    → r
-    ≡ pick (in_set k v.here) (pick (likewise (mark_of m) (state_in v b k).mark) (with_member (state_in v b k).sender (union bits (state_in v b k).mark.bits)) bits) bits
-    → w ≡ join_like (mark_of m) bits (states_from v b (v.servers - k) k) → w ≡ join_like (mark_of m) r (states_from v b (v.servers - (k + 1)) (k + 1))
-join_again v b k m bits r w h e i =
-    fold_again (join_like (mark_of m)) (λ a x. pick (likewise (mark_of m) x.mark) (with_member x.sender (union a x.mark.bits)) a) (join_step (mark_of m)) v b k bits r w h e i
-
-pub join_end : (v : Slots) (b : List ℕ) (k : ℕ) (m : Mark) (bits : ℕ) → v.servers ≤ k
-    → join_like (mark_of m) m.bits (states_of v b) ≡ join_like (mark_of m) bits (states_from v b (v.servers - k) k)
-    → (s : State) → s.mark ≡ mark_of m → bits ≡ joined_bits (states_of v b) s
-unfolding joined_bits join_like alike likewise is_marked join_bits filter mark_of
-join_end v b k m bits h i s e =
-    sym (fold_end (join_like (mark_of m)) v b k bits _ h i) ∙ ap (λ (o : FormatMark). join_like o o.bits (states_of v b)) (sym e)
+pub join_made : (xs : List State) (m : Mark) (r : ℕ) → r ≡ folded (joined_with (mark_of m)) m.bits xs → (s : State) → s.mark ≡ mark_of m → r ≡ joined_bits xs s
+unfolding joined_bits alike likewise is_marked mark_of
+join_made xs m r h s e =
+    h ∙ join_folded (mark_of m) xs m.bits ∙ ap (λ (o : FormatMark). join_bits (filter (λ x. likewise o x.mark) xs) o.bits) (sym e)
 
 -- a turn
 
-module _ (v : Slots) (b : List ℕ) (k : ℕ) (m : Mark) (x : StateHead) (bits : ℕ) (u w : Bool) (e : u ≡ in_set k v.here) (n : not u ≡ false)
-    (h : x ≡ head_of v b k) (i : w ≡ likewise (mark_of m) (mark_of x.mark)) where
+module _ (v : Slots) (b : List ℕ) (k : ℕ) (m o : Mark) (bits : ℕ) (w : Bool) (h : (state_in v b k).mark ≡ mark_of o)
+    (i : w ≡ likewise (mark_of m) (mark_of o)) where
   like_there : w ≡ likewise (mark_of m) (state_in v b k).mark
-  like_there = i ∙ ap (likewise (mark_of m)) (sym (mark_read v b k x h))
+  like_there = i ∙ ap (likewise (mark_of m)) (sym h)
 
-  pub join_not : not w ≡ true
-      → bits
-      ≡ pick (in_set k v.here) (pick (likewise (mark_of m) (state_in v b k).mark) (with_member (state_in v b k).sender (union bits (state_in v b k).mark.bits)) bits) bits
-  join_not z = pick_yes _ _ _ _ (sym e ∙ not-false u n) (pick_no _ _ _ _ (sym like_there ∙ not-true w z) refl)
+  pub join_not : w ≡ false → bits ≡ joined_with (mark_of m) bits (state_in v b k)
+  join_not z = pick_no _ _ _ _ (sym like_there ∙ z) refl
 
-  pub join_yes : (r : ℕ) → Room v b → k < v.servers → not w ≡ false → r ≡ with_member k (bit_or bits x.mark.bits)
-      → r
-      ≡ pick (in_set k v.here) (pick (likewise (mark_of m) (state_in v b k).mark) (with_member (state_in v b k).sender (union bits (state_in v b k).mark.bits)) bits) bits
-  unfolding union
-  join_yes r room l z j =
-      let inn : in_set k v.here ≡ true = sym e ∙ not-false u n in
-      let s : k ≡ (state_in v b k).sender = sym (room.senders k l inn) in
-      let o : x.mark.bits ≡ (state_in v b k).mark.bits = sym (bits_read v b k x h) in
-      pick_yes _ _ _ _ inn (pick_yes _ _ _ _ (sym like_there ∙ not-false w z) (j ∙ ap₂ {A = ℕ} {B = ℕ} {C = ℕ} (λ y c. with_member y (bit_or bits c)) s o))
+  pub join_yes : (r : ℕ) → (state_in v b k).sender ≡ k → w ≡ true → r ≡ with_member k (bit_or bits o.bits)
+      → r ≡ joined_with (mark_of m) bits (state_in v b k)
+  unfolding union mark_of
+  join_yes r s z j =
+      let p : o.bits ≡ (state_in v b k).mark.bits = ap (λ (y : FormatMark). y.bits) (sym h) in
+      pick_yes _ _ _ _ (sym like_there ∙ z) (j ∙ ap₂ {A = ℕ} {B = ℕ} {C = ℕ} (λ y c. with_member y (bit_or bits c)) (sym s) p)

@@ -1,21 +1,19 @@
 -- The set of the slots whose State passes a test, made slot by slot.
 use Prim.Native.Nat.{ℕ, zero, suc, ◌+◌, ◌≤◌, ◌<◌}
 use mathlib.Core.Path.{◌≡◌, refl, sym, ap, ap₂, ◌∙◌}
-use mathlib.Core.Bool.{Bool, true, false, not}
+use mathlib.Core.Bool.{Bool, true, false}
 use mathlib.Core.List.{List, ◌∷◌}
 use native.Mathlib.Omega.{arith}
 use native.Mathlib.Numerals.{add-one}
 use Rattle.base.specs.Tests.{◌and◌, ◌=?◌, pick}
-use Rattle.base.proofs.TestLaws.{pick_yes, pick_no, Known, known, holds, fails, and_holds, eq_holds, eq_fails}
-use borrow.Author.Tests.{not-true, not-false}
-use Rattle.base.proofs.Branches.{and_answered, and_denied}
+use Rattle.base.proofs.TestLaws.{pick_yes, pick_no, and_yes, and_no, Known, known, holds, fails, and_holds, eq_holds, eq_fails}
 use Rattle.base.specs.Lists.{filter}
 use Rattle.base.specs.Sets.{in_set, with_member}
 use Rattle.base.proofs.SetLaws.{in_empty, member_other, member_same}
 use Rattle.format.specs.Types.{State}
 use Rattle.exchange.specs.declared.slots.Slots.{Slots}
-use Rattle.exchange.specs.Slots.{Room, with_here, slot_at, state_in, states_from, states_of}
-use Rattle.exchange.specs.Passing.{Passing}
+use Rattle.exchange.specs.Slots.{with_here, slot_at, state_in, states_from, states_of}
+use Rattle.exchange.specs.Folds.{Those}
 
 -- ---- the set made
 
@@ -72,28 +70,27 @@ module _ (t : State → Bool) (v : Slots) (b : List ℕ) where
       ap₂ {A = Bool} {B = List State} {C = List State} (λ a xs. pick a (state_in v b k ∷ xs) xs) now rest
       ∙ sym (filter_pick t (in_set k v.here) (state_in v b k) (states_from v b m (k + 1)))
 
-  pub passing_end : (k set : ℕ) → Room v b → k ≤ v.servers → v.servers ≤ k → set ≡ passing_to t v b k → Passing t v b set
+  pub passing_end : (k set : ℕ) → k ≤ v.servers → v.servers ≤ k → set ≡ passing_to t v b k → Those t v b (with_here set v) b
   unfolding states_of with_here state_in slot_at
-  passing_end k set r h l e =
+  passing_end k set h l e =
       let full : k ≡ v.servers = omega arith in
       let is : (j : ℕ) → j < v.servers → in_set j set ≡ (in_set j v.here and t (state_in v b j)) =
       λ j m. ap (in_set j) (e ∙ ap (passing_to t v b) full) ∙ those_below v.servers j m in
       record {
+        slots = refl;
+        bytes = refl;
         states = passing_from set v.servers 0 is (omega arith);
-        room = record {
-          space = record { servers = r.space.servers; long = r.space.long; inside = r.space.inside };
-          senders = λ j m i. r.senders j m (and_holds _ _ (sym (is j m) ∙ i)).0;
-        };
         among = λ j m i. (and_holds _ _ (sym (is j m) ∙ i)).0;
       }
 
--- ---- a turn
+  -- ---- a turn
 
-pub passing_out : (a c : Bool) (set x : ℕ) (u : Bool) → u ≡ a → not u ≡ true → set ≡ pick (a and c) x set
-passing_out a c set x u e h = pick_no (a and c) set x set (sym (and_denied u a c e h)) refl
+  pub passing_out : (k set : ℕ) → in_set k v.here ≡ false → set ≡ passing_to t v b k → set ≡ passing_to t v b (k + 1)
+  passing_out k set m i = passing_again k set set (pick_no _ _ _ _ (sym (and_no _ _ m)) refl) i
 
-pub passing_not : (a c : Bool) (set x : ℕ) (u w : Bool) → u ≡ a → not u ≡ false → w ≡ c → not w ≡ true → set ≡ pick (a and c) x set
-passing_not a c set x u w e h f i = pick_no (a and c) set x set (sym (and_answered u a false c e h (sym (sym f ∙ not-true w i)))) refl
+  pub passing_not : (k set : ℕ) → in_set k v.here ≡ true → false ≡ t (state_in v b k) → set ≡ passing_to t v b k → set ≡ passing_to t v b (k + 1)
+  passing_not k set m e i = passing_again k set set (pick_no _ _ _ _ (sym (and_yes false _ _ m e)) refl) i
 
-pub passing_yes : (a c : Bool) (set x y : ℕ) (u w : Bool) → u ≡ a → not u ≡ false → w ≡ c → not w ≡ false → y ≡ x → y ≡ pick (a and c) x set
-passing_yes a c set x y u w e h f i j = pick_yes (a and c) y x set (sym (and_answered u a true c e h (sym (sym f ∙ not-false w i)))) j
+  pub passing_yes : (k set r : ℕ) → in_set k v.here ≡ true → true ≡ t (state_in v b k) → r ≡ with_member k set → set ≡ passing_to t v b k
+      → r ≡ passing_to t v b (k + 1)
+  passing_yes k set r m e j i = passing_again k set r (pick_yes _ _ _ _ (sym (and_yes true _ _ m e)) j) i

@@ -1,74 +1,89 @@
--- The numbers of the plan, computed from the slots.
-use Prim.Native.Nat.{ℕ, ◌+◌, ◌-◌, ◌≤◌, ◌<◌, max, min}
-use mathlib.Core.Path.{◌≡◌, refl, sym, ap, ◌∙◌}
+-- The numbers of the plan, as folds over the States.
+use Prim.Native.Nat.{ℕ, zero, suc, ◌+◌, ◌-◌, ◌≤◌, ◌<◌, max, min}
+use mathlib.Core.Path.{◌≡◌, refl, sym, ap, ap₂, ◌∙◌}
 use mathlib.Core.Bool.{Bool, true, false, not}
-use mathlib.Core.List.{List}
+use mathlib.Core.List.{List, [], ◌∷◌}
+use mathlib.Core.Option.{Option, none, some}
 use native.Mathlib.Omega.{arith}
-use borrow.Author.Tests.{not-true, not-false}
-use Rattle.base.specs.Tests.{pick}
-use Rattle.base.proofs.TestLaws.{pick_yes, pick_no}
-use Rattle.base.specs.Sets.{in_set}
+use lib.ListN.{length}
+use lib.Dec.{eqb}
+use Rattle.base.specs.Tests.{◌=?◌, pick}
+use Rattle.base.proofs.Branches.{told_eq}
+use Rattle.base.proofs.ListLaws.{above_length}
+use Rattle.base.specs.Lists.{filter}
 use Rattle.format.specs.Types.{State}
-use Rattle.replication.specs.Machine.Plan.{highest, lowest_from, lowest}
+use Rattle.record.specs.Values.{state_of}
+use Rattle.record.specs.declared.events.StateHead.{StateHead}
+use Rattle.replication.specs.Machine.Plan.{highest, lowest_from, lowest, first_with, resender, is_me, missing}
 use Rattle.exchange.specs.declared.slots.Slots.{Slots}
-use Rattle.exchange.specs.Slots.{First, state_in, states_from, states_of}
-use Rattle.exchange.proofs.SlotLaws.{states_start, states_in_lem, states_end, fold_again, fold_end}
+use Rattle.exchange.specs.Slots.{state_in, states_of, head_of}
+use Rattle.exchange.specs.Folds.{folded, FoundAt, FirstAt}
+use Rattle.exchange.proofs.ReadLaws.{state_stands}
 
--- ---- the highest
+-- ---- the highest and the lowest
 
-pub highest_start : (f : State → ℕ) (v : Slots) (b : List ℕ) → highest f (states_of v b) ≡ max 0 (highest f (states_from v b (v.servers - 0) 0))
-highest_start f v b = omega (arith, ap (highest f) (states_start v b))
+highest_folded : (f : State → ℕ) (xs : List State) (a : ℕ) → folded (λ high x. max (f x) high) a xs ≡ max a (highest f xs)
+unfolding folded highest
+highest_folded f [] a = omega arith
+highest_folded f (x ∷ xs) a = highest_folded f xs (max (f x) a) ∙ omega arith
 
-pub highest_again : (f : State → ℕ) (v : Slots) (b : List ℕ) (k high r w : ℕ) → k < v.servers
-    → r ≡ pick (in_set k v.here) (max (f (state_in v b k)) high) high
-    → w ≡ max high (highest f (states_from v b (v.servers - k) k)) → w ≡ max r (highest f (states_from v b (v.servers - (k + 1)) (k + 1)))
-unfolding highest
-highest_again f v b k high r w h e i =
-    fold_again (λ a xs. max a (highest f xs)) (λ a x. max (f x) a) (λ a x xs. omega arith) v b k high r w h e i
+pub highest_made : (f : State → ℕ) (xs : List State) → folded (λ high x. max (f x) high) 0 xs ≡ highest f xs
+highest_made f xs = highest_folded f xs 0 ∙ omega arith
 
-pub highest_end : (f : State → ℕ) (v : Slots) (b : List ℕ) (k high w : ℕ) → v.servers ≤ k
-    → w ≡ max high (highest f (states_from v b (v.servers - k) k)) → high ≡ w
-unfolding highest
-highest_end f v b k high w h i = omega (arith, fold_end (λ a xs. max a (highest f xs)) v b k high w h i)
+lowest_folded : (f : State → ℕ) (xs : List State) (a : ℕ) → folded (λ low x. min low (f x)) a xs ≡ lowest_from f a xs
+unfolding folded lowest_from
+lowest_folded f [] a = refl
+lowest_folded f (x ∷ xs) a = lowest_folded f xs (min a (f x))
 
--- ---- a turn
+lowest_twice : (f : State → ℕ) (x : State) (xs : List State) → folded (λ low x. min low (f x)) (f x) (x ∷ xs) ≡ lowest f (x ∷ xs)
+unfolding folded lowest
+lowest_twice f x xs =
+    let z : min (f x) (f x) ≡ f x = omega arith in
+    lowest_folded f xs (min (f x) (f x)) ∙ ap (λ (m : ℕ). lowest_from f m xs) z
 
-pub raise_out : (t : Bool) (high x : ℕ) (u : Bool) → u ≡ t → not u ≡ true → high ≡ pick t (max x high) high
-raise_out t high x u e h = pick_no t high _ _ (sym e ∙ not-true u h) refl
+pub lowest_made : (f : State → ℕ) (v : Slots) (b : List ℕ) (k a : ℕ) → FirstAt v b k → a ≡ f (state_in v b k)
+    → folded (λ low x. min low (f x)) a (states_of v b) ≡ lowest f (states_of v b)
+lowest_made f v b k a s e =
+    (λ i. folded (λ low x. min low (f x)) (e i) (s.states i)) ∙ lowest_twice f (state_in v b k) _ ∙ ap (lowest f) (sym s.states)
 
-pub raise_more : (t : Bool) (high x y : ℕ) (u : Bool) → u ≡ t → not u ≡ false → y ≡ x → high < y → y ≡ pick t (max x high) high
-raise_more t high x y u e h i l = pick_yes t y _ _ (sym e ∙ not-false u h) (omega arith)
-
-pub raise_less : (t : Bool) (high x y : ℕ) (u : Bool) → u ≡ t → not u ≡ false → y ≡ x → y ≤ high → high ≡ pick t (max x high) high
-raise_less t high x y u e h i l = pick_yes t high _ _ (sym e ∙ not-false u h) (omega arith)
-
-pub lower_out : (t : Bool) (low x : ℕ) (u : Bool) → u ≡ t → not u ≡ true → low ≡ pick t (min low x) low
-lower_out t low x u e h = pick_no t low _ _ (sym e ∙ not-true u h) refl
-
-pub lower_less : (t : Bool) (low x y : ℕ) (u : Bool) → u ≡ t → not u ≡ false → y ≡ x → y < low → y ≡ pick t (min low x) low
-lower_less t low x y u e h i l = pick_yes t y _ _ (sym e ∙ not-false u h) (omega arith)
-
-pub lower_more : (t : Bool) (low x y : ℕ) (u : Bool) → u ≡ t → not u ≡ false → y ≡ x → low ≤ y → low ≡ pick t (min low x) low
-lower_more t low x y u e h i l = pick_yes t low _ _ (sym e ∙ not-false u h) (omega arith)
-
--- ---- the lowest
-
-pub lowest_none : (f : State → ℕ) (v : Slots) (b : List ℕ) (k : ℕ) → First v k → v.servers ≤ k → 0 ≡ lowest f (states_of v b)
+pub lowest_none : (f : State → ℕ) (v : Slots) (b : List ℕ) → states_of v b ≡ [] → 0 ≡ lowest f (states_of v b)
 unfolding lowest
-lowest_none f v b k r h = sym (ap (lowest f) (r.rest b ∙ states_end v b k h))
+lowest_none f v b e = sym (ap (lowest f) e)
 
-pub lowest_start : (f : State → ℕ) (v : Slots) (b : List ℕ) (k x : ℕ) → First v k → k < v.servers → x ≡ f (state_in v b k)
-    → lowest f (states_of v b) ≡ lowest_from f x (states_from v b (v.servers - (k + 1)) (k + 1))
-unfolding lowest
-lowest_start f v b k x r h e = ap (lowest f) (r.rest b ∙ states_in_lem v b k h (r.there h)) ∙ rw e
+pub missing_made : (f : State → ℕ) (xs : List State) (low high : ℕ) → low ≡ lowest f xs → high ≡ highest f xs → high - low ≡ length (missing f xs)
+unfolding missing
+missing_made f xs low high e i = omega (arith, above_length (lowest f xs) (highest f xs), e, i)
 
-pub lowest_again : (f : State → ℕ) (v : Slots) (b : List ℕ) (k low r w : ℕ) → k < v.servers
-    → r ≡ pick (in_set k v.here) (min low (f (state_in v b k))) low
-    → w ≡ lowest_from f low (states_from v b (v.servers - k) k) → w ≡ lowest_from f r (states_from v b (v.servers - (k + 1)) (k + 1))
-unfolding lowest_from
-lowest_again f v b k low r w h e i = fold_again (lowest_from f) (λ a x. min a (f x)) (λ a x xs. refl) v b k low r w h e i
+-- ---- who resends
 
-pub lowest_end : (f : State → ℕ) (v : Slots) (b : List ℕ) (k low w : ℕ) → v.servers ≤ k
-    → w ≡ lowest_from f low (states_from v b (v.servers - k) k) → low ≡ w
-unfolding lowest_from
-lowest_end f v b k low w h i = sym (fold_end (lowest_from f) v b k low w h i)
+unfoldable sender_of : List State → Option ℕ
+sender_of [] = none
+sender_of (x ∷ xs) = some x.sender
+
+sender_pick : (t : Bool) (x : State) (xs : List State) → sender_of (pick t (x ∷ xs) xs) ≡ pick t (some x.sender) (sender_of xs)
+unfolding pick sender_of
+sender_pick true x xs = refl
+sender_pick false x xs = refl
+
+first_sender : (f : State → ℕ) (h : ℕ) (xs : List State) → first_with f h xs ≡ sender_of (filter (λ x. f x =? h) xs)
+unfolding first_with filter sender_of
+first_sender f h [] = refl
+first_sender f h (x ∷ xs) =
+    ap (pick (f x =? h) (some x.sender)) (first_sender f h xs) ∙ sym (sender_pick (f x =? h) x (filter (λ y. f y =? h) xs))
+
+resender_from : (f : State → ℕ) (h me : ℕ) (xs : List State) → h ≡ highest f xs → is_me me (resender f xs) ≡ is_me me (sender_of (filter (λ x. f x =? h) xs))
+unfolding resender
+resender_from f h me xs e = ap (λ (n : ℕ). is_me me (first_with f n xs)) (sym e) ∙ ap (is_me me) (first_sender f h xs)
+
+pub resends_none : (f : State → ℕ) (v : Slots) (b : List ℕ) (h me : ℕ) → h ≡ highest f (states_of v b)
+    → filter (λ x. f x =? h) (states_of v b) ≡ [] → false ≡ is_me me (resender f (states_of v b))
+unfolding is_me sender_of
+resends_none f v b h me e i = sym (resender_from f h me (states_of v b) e ∙ ap (λ (l : List State). is_me me (sender_of l)) i)
+
+pub resends_told : (f : State → ℕ) (v : Slots) (b : List ℕ) (h me k : ℕ) (x : StateHead) → h ≡ highest f (states_of v b)
+    → FoundAt (λ x. f x =? h) v b k → x ≡ head_of v b k → eqb x.sender me ≡ is_me me (resender f (states_of v b))
+unfolding is_me state_of sender_of
+resends_told f v b h me k x e s r =
+    told_eq x.sender me
+    ∙ ap (λ (y : State). y.sender =? me) (state_stands v b k x r)
+    ∙ sym (resender_from f h me (states_of v b) e ∙ ap (λ (l : List State). is_me me (sender_of l)) s.states)

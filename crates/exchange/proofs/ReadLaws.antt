@@ -15,10 +15,7 @@ use Rattle.record.specs.declared.events.StateHead.{StateHead}
 use Rattle.record.proofs.PartLaws.{state_is}
 use Rattle.replication.specs.Machine.Plan.{cut_in, green_in}
 use Rattle.exchange.specs.declared.slots.Slots.{Slots}
-use Rattle.exchange.specs.declared.plan.Number.{Number}
-use Rattle.exchange.specs.declared.plan.Number.TheVariants.{Green, Attempt, Cut}
 use Rattle.exchange.specs.Slots.{Space, slot_at, state_in, head_of}
-use Rattle.exchange.specs.Numbers.{number_in, Within}
 use Rattle.exchange.proofs.SlotLaws.{slot_inside}
 use Rattle.format.specs.Places.{state_cuts_at, standing_size}
 
@@ -51,20 +48,10 @@ cut_read v b k c at x h e i =
     i ∙ ap (number_at 2 b) z ∙ sym (number_drop 2 b at (state_cuts_at + 2 * c)) ∙ ap (λ (p : ℕ). number_at 2 (drop p b) (state_cuts_at + 2 * c)) e
     ∙ sym (numbers_at_lem 2 v.servers (drop (slot_at v k) b) state_cuts_at c h)
 
-pub green_read : (v : Slots) (b : List ℕ) (k : ℕ) (x : StateHead) (f : Number) → f ≡ Green → x ≡ head_of v b k
-    → x.green_length ≡ number_in f (state_in v b k)
-unfolding number_in green_in state_of
-green_read v b k x f e h = rw e (ap (λ (s : State). s.green_length) (state_stands v b k x h))
+pub green_read : (v : Slots) (b : List ℕ) (k : ℕ) (x : StateHead) → x ≡ head_of v b k → x.green_length ≡ green_in (state_in v b k)
+unfolding green_in state_of
+green_read v b k x h = ap (λ (s : State). s.green_length) (state_stands v b k x h)
 
-pub attempt_read : (v : Slots) (b : List ℕ) (k : ℕ) (x : StateHead) (f : Number) → f ≡ Attempt → x ≡ head_of v b k
-    → x.attempt.0 ≡ number_in f (state_in v b k)
-unfolding number_in state_of
-attempt_read v b k x f e h = rw e (ap (λ (s : State). s.attempt) (state_stands v b k x h))
-
-pub within_cut_lem : (n c : ℕ) (f : Number) → Within n f → f ≡ Cut c → c < n
-unfolding Within
-within_cut_lem n c f h e = rw e at h
-
-pub cut_value : (v : Slots) (b : List ℕ) (k c x : ℕ) (f : Number) → f ≡ Cut c → x ≡ cut_in c (state_in v b k) → x ≡ number_in f (state_in v b k)
-unfolding number_in
-cut_value v b k c x f e h = h ∙ rw e
+pub sender_read : (v : Slots) (b : List ℕ) (k : ℕ) (x : StateHead) → x ≡ head_of v b k → (state_in v b k).sender ≡ x.sender
+unfolding state_of
+sender_read v b k x h = ap (λ (s : State). s.sender) (sym (state_stands v b k x h))

@@ -1,6 +1,6 @@
 -- Where a buffer holds a state, its slots have room.
 use Prim.Native.Nat.{ℕ, zero, suc, ◌+◌, ◌*◌, ◌^◌, ◌<◌}
-use mathlib.Core.Path.{◌≡◌, refl, sym, ap, ◌∙◌}
+use mathlib.Core.Path.{◌≡◌, refl, sym, ap, subst, ◌∙◌}
 use mathlib.Core.Bool.{true}
 use mathlib.Core.List.{List}
 use mathlib.Core.Option.{Option, none, some}
@@ -62,15 +62,16 @@ holds_room s b h =
       senders = λ k l t. ((well_formed_facts s h.formed).membership.states k _ (state_there s b h k l t)).sender;
     }
 
-pub room_space : (v : Slots) (b : List ℕ) → Room v b → Space v b
-room_space v b r = r.space
-
 -- ---- the slots as the code computes them
 
 pub slots_made : (n q size at here : ℕ) → size ≡ state_size n q → at ≡ offset n q the_states
     → ◌≡◌ {A = Slots} (record { servers = n; size = size; at = at; here = here }) (slots_of n q here)
 unfolding slots_of
 slots_made n q size at here e f = λ i. record { servers = n; size = e i; at = f i; here = here }
+
+pub space_made : (n q size at here : ℕ) (b : List ℕ) → size ≡ state_size n q → at ≡ offset n q the_states → Space (slots_of n q here) b
+    → Space (record { servers = n; size = size; at = at; here = here }) b
+space_made n q size at here b e f s = subst (λ (v : Slots). Space v b) (sym (slots_made n q size at here e f)) s
 
 -- ---- every member's State is in
 

@@ -1,7 +1,8 @@
 pub mod Slots
-pub mod Numbers
+pub mod Folds
 pub mod Passing
-pub mod Primary
+pub mod States
+pub mod Plan
 pub mod Marks
 pub mod Table
 pub mod Decided

@@ -63,9 +63,3 @@ pub record Space (v : Slots) (b : List ℕ) : Type 0 where
 pub record Room (v : Slots) (b : List ℕ) : Type 0 where
   pub space : Space v b
   pub senders : (k : ℕ) → k < v.servers → in_set k v.here ≡ true → (state_in v b k).sender ≡ k
-
--- k is the first slot that is meant, or past the last one.
-pub record First (v : Slots) (k : ℕ) : Type 0 where
-  pub low : k ≤ v.servers
-  pub there : k < v.servers → in_set k v.here ≡ true
-  pub rest : (b : List ℕ) → states_of v b ≡ states_left v b k

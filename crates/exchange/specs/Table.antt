@@ -13,7 +13,7 @@ use Rattle.record.specs.declared.Context as declared
 use Rattle.record.specs.Context.{context_of, ContextIn}
 use Rattle.record.specs.Values.{slot, Marked}
 use Rattle.exchange.specs.declared.slots.Slots.{Slots}
-use Rattle.exchange.specs.Slots.{Room, slot_at, state_in, states_left, if_meant}
+use Rattle.exchange.specs.Slots.{slot_at, state_in, states_left, if_meant}
 use Rattle.format.specs.Places.{cut_size, id_size, state_head_size}
 
 -- Where the id d stands in the list: the number of its ids where it has none.
@@ -92,12 +92,10 @@ ListsInside v b = (k : ℕ) → k < v.servers → in_set k v.here ≡ true → L
 
 -- The slot k with its list, and the slots from k on with the lists of those that are meant.
 pub record SlotInside (v : Slots) (b : List ℕ) (k : ℕ) : Type 0 where
-  pub room : Room v b
   pub low : k < v.servers
   pub list : ListInside v b k
 
 pub record SlotsInside (v : Slots) (b : List ℕ) (k : ℕ) : Type 0 where
-  pub room : Room v b
   pub most : k ≤ v.servers
   pub lists : ListsInside v b
 

@@ -5,13 +5,14 @@ ghost use Rattle.format.specs.Places.{id_size};
 ghost use Rattle.format.specs.Read.{id_at};
 ghost use Rattle.format.specs.Write.{id_bytes};
 ghost use Rattle.record.specs.Context.{ContextIn};
-ghost use Rattle.exchange.specs.Slots.{Room, First, states_of, states_left};
-ghost use Rattle.exchange.specs.Table.{sought_in, Sought, KeepsAt, kept_of, kept_ids, common_from, Listed, SlotsInside, ListsFit};
+ghost use Rattle.exchange.specs.Slots.{states_left};
+ghost use Rattle.exchange.specs.Folds.{FirstAt};
+ghost use Rattle.exchange.specs.States.{Fits, sent};
+ghost use Rattle.exchange.specs.Table.{sought_in, Sought, KeepsAt, kept_of, kept_ids, common_from, Listed, SlotsInside};
 ghost use Rattle.replication.specs.Machine.Exchange.{taken_yellow};
 
-use crate::slots::{Slots, first, head, place};
+use crate::states::States;
 use crate::table::{hints, raise_lists};
-use crate::yellow::yellow_voters;
 use octets::numbers::{num8, num16};
 use record::events::StateHead;
 use record::{ActionHead, Context, State};
@@ -62,10 +63,8 @@ pub fn keep(
     ensures { Listed result out.new (kept_of ids round first.now table.now) }
 {
     let mut kept = 0;
-    let mut j = 0;
-    while j < ids {
+    for j in 0..ids {
         kept = keep_at(first, ids, j, round, table, out, kept);
-        j += 1;
     }
     kept
 }
@@ -75,33 +74,31 @@ fn common_of(
     c: Context,
     first: &[u8],
     ids: usize,
-    v: Slots,
-    state: &[u8],
+    states: &States<'_>,
     start: usize,
     out: &mut [u8],
 ) -> usize
-    requires { ContextIn c × Sought ids first.now × SlotsInside v state.now start × (id_size * ids ≤ length out.old) }
-    ensures { Listed result out.new (kept_ids (sought_in ids first.now) (states_left v state.now start)) }
+    requires { ContextIn c × Sought ids first.now × SlotsInside states.now.slots states.now.bytes.now start × (id_size * ids ≤ length out.old) }
+    ensures { Listed result out.new (kept_ids (sought_in ids first.now) (states_left states.now.slots states.now.bytes.now start)) }
 {
     let hints = hints(c, first, ids);
     let mut table: [u8; State::MOST_IDS] = [0; State::MOST_IDS];
-    let round = raise_lists(c, first, ids, &hints, v, state, start, &mut table);
+    let round = raise_lists(c, first, ids, &hints, states, start, &mut table);
     keep(first, ids, round, &table, out)
 }
 
 // The ids of the list in the slot `start` that every list behind it has, too: how many there are.
-fn common(c: Context, v: Slots, state: &[u8], start: usize, out: &mut [u8]) -> usize
-    requires { ContextIn c × Room v state.now × First v start × (start < v.servers) × ListsFit v state.now out.old }
-    ensures { Listed result out.new (common_from v state.now start) }
+fn common(c: Context, states: &States<'_>, start: usize, out: &mut [u8]) -> usize
+    requires { ContextIn c × FirstAt states.now.slots states.now.bytes.now start × Fits states.now out.old }
+    ensures { Listed result out.new (common_from states.now.slots states.now.bytes.now start) }
 {
-    let x = head(v, state, start);
-    let at = place(v, state, start) + (StateHead::SIZE + State::CUT * v.servers);
+    let x = states.head(start);
+    let at = states.place(start) + (StateHead::SIZE + State::CUT * states.slots.servers);
     common_of(
         c,
-        &state[at..],
+        &states.bytes[at..],
         x.yellow_count as usize,
-        v,
-        state,
+        states,
         start + 1,
         out,
     )
@@ -109,15 +106,13 @@ fn common(c: Context, v: Slots, state: &[u8], start: usize, out: &mut [u8]) -> u
 
 // "the ids common to all those valid lists, in the order of the lowest-numbered such sender's list; else it is invalid and
 // empty": how many; their bytes are in `out`.
-pub fn taken_ids(c: Context, v: Slots, state: &[u8], out: &mut [u8]) -> usize
-    requires { ContextIn c × Room v state.now × ListsFit v state.now out.old }
-    ensures { Listed result out.new (taken_yellow (states_of v state.now)).ids }
+pub fn taken_ids(c: Context, states: &States<'_>, out: &mut [u8]) -> usize
+    requires { ContextIn c × Fits states.now out.old }
+    ensures { Listed result out.new (taken_yellow (sent states.now)).ids }
 {
-    let set = yellow_voters(v, state);
-    let w = v.only(set);
-    let start = first(w);
-    if v.servers <= start {
-        return 0;
+    let voters = states.yellow_voters();
+    match voters.first() {
+        Some(start) => common(c, &voters, start, out),
+        None => 0,
     }
-    common(c, w, state, start, out)
 }

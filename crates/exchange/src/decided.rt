@@ -7,17 +7,15 @@ ghost use Rattle.replication.specs.Machine.Plan.{green_in, cut_in};
 ghost use Rattle.replication.specs.Machine.Exchange.{taken_votes, taken_yellow, quorum as has_quorum};
 ghost use Rattle.replication.specs.Machine.Step.{here_set, collected, all_states_in, all_cpcs_in, planned_now};
 ghost use Rattle.image.specs.Holding.{Holds, HoldsSuch, HoldsSome, Computes};
-ghost use Rattle.exchange.specs.Slots.{Room, slots_in, states_of};
-ghost use Rattle.exchange.specs.Numbers.{number_in, Within};
+ghost use Rattle.exchange.specs.Slots.{slots_in};
 ghost use Rattle.exchange.specs.Table.{Listed};
-ghost use Rattle.exchange.specs.Decided.{votes_numbers, part_of};
+ghost use Rattle.exchange.specs.Decided.{votes_numbers};
+ghost use Rattle.exchange.specs.Plan.{part_of};
 
 use crate::common::taken_ids;
-use crate::marks::{own_mark, quorum};
-use crate::plan::{Number, highest, lowest, planned, resends};
-use crate::primary::{taken_attempt, taken_primary};
-use crate::slots::{Slots, collected as collected_in};
-use crate::yellow::yellow_status;
+use crate::judging::Judging;
+use crate::plan::Part;
+use crate::states::States;
 use image::header::load;
 use octets::numbers::num8;
 use record::sets::inside;
@@ -30,14 +28,6 @@ pub struct TakenVotes {
     pub attempt: AttemptIndex,
     pub mark: Mark,
     pub yellow_status: u8,
-}
-
-// Whether the server resends, and what: those above `low` up to `high`.
-#[derive(Clone, Copy)]
-pub struct Part {
-    pub mine: bool,
-    pub low: u32,
-    pub high: u32,
 }
 
 // "When every member's State is in"
@@ -62,13 +52,14 @@ pub fn all_cpcs_in(state: &[u8]) -> bool
     )
 }
 
-// The slots of the States that are in.
-fn held_slots(state: &[u8]) -> Slots
+// The States that are in, where they lie.
+fn held(state: &[u8]) -> States<'_>
     requires { HoldsSome state.now }
-    ensures { Computes slots_in state.now result }
+    ensures slots { Computes slots_in state.now result.slots }
+    ensures bytes { result.bytes.now ≡ state.now }
 {
     let h = load(state);
-    collected_in(h.servers, h.quota, h.states)
+    States::collected(h.servers, h.quota, h.states, state)
 }
 
 // How many retransmissions are planned.
@@ -76,39 +67,27 @@ pub fn planned_now(state: &[u8]) -> u64
     requires { HoldsSome state.now }
     ensures { Computes planned_now state.now result }
 {
-    let v = held_slots(state);
-    planned(v, state)
+    held(state).planned()
 }
 
-fn part_by(v: Slots, state: &[u8], f: Number, me: usize) -> Part
-    requires { Room v state.now × Within v.servers f }
-    ensures { result ≡ part_of (number_in f) me (states_of v state.now) }
-{
-    Part {
-        mine: resends(v, state, f, me),
-        low: lowest(v, state, f),
-        high: highest(v, state, f),
-    }
-}
-
-// "the server with the longest green list resends positions from the shortest length + 1 to its own"
-pub fn resends_green(state: &[u8]) -> Part
+// "the server with the longest green list resends positions from the shortest length + 1 to its own": what this one resends, if it does.
+pub fn resends_green(state: &[u8]) -> Option<Part>
     requires { HoldsSome state.now }
     ensures { Computes (λ s. part_of green_in s.me (collected s)) state.now result }
 {
-    let v = held_slots(state);
+    let states = held(state);
     let me = num8(state, State::AT_ME);
-    part_by(v, state, Number::Green, me as usize)
+    states.part(|k| states.head(k).green_length, me as usize)
 }
 
 // "for each creator the server with the highest cut resends from the lowest cut + 1 to it"
-pub fn resends_red(state: &[u8], c: usize) -> Part
+pub fn resends_red(state: &[u8], c: usize) -> Option<Part>
     requires { HoldsSuch (λ s. c < s.servers) state.now }
     ensures { Computes (λ s. part_of (cut_in c) s.me (collected s)) state.now result }
 {
-    let v = held_slots(state);
+    let states = held(state);
     let me = num8(state, State::AT_ME);
-    part_by(v, state, Number::Cut(c), me as usize)
+    states.part(|k| states.cut(k, c) as u32, me as usize)
 }
 
 // Whether the members here are a quorum.
@@ -116,8 +95,8 @@ pub fn quorum_here(state: &[u8]) -> bool
     requires { HoldsSome state.now }
     ensures { Computes (λ s. has_quorum (collected s) (here_set s)) state.now result }
 {
-    let v = held_slots(state);
-    quorum(v, state, num8(state, State::AT_CONFIGURATION_SET))
+    let judging = Judging::new(held(state));
+    judging.quorum(num8(state, State::AT_CONFIGURATION_SET))
 }
 
 // Primary, attempt and own mark, and whether the yellow list is valid.
@@ -125,15 +104,15 @@ pub fn taken_votes(state: &[u8]) -> TakenVotes
     requires { HoldsSome state.now }
     ensures { Computes (λ s. votes_numbers (taken_votes s.me (collected s))) state.now result }
 {
-    let v = held_slots(state);
-    let me = num8(state, State::AT_ME) as usize;
-    let last = taken_primary(v, state);
-    let mark = own_mark(v, state, me, last);
+    let states = held(state);
+    let me = num8(state, State::AT_ME);
+    let judging = Judging::new(states);
+    let mark = judging.own_mark(me as usize);
     TakenVotes {
-        last,
-        attempt: AttemptIndex(taken_attempt(v, state)),
+        last: judging.taken,
+        attempt: AttemptIndex(states.taken_attempt()),
         mark,
-        yellow_status: yellow_status(v, state),
+        yellow_status: states.yellow_status(),
     }
 }
 
@@ -142,7 +121,7 @@ pub fn taken_yellow(state: &[u8], out: &mut [u8]) -> usize
     requires { HoldsSome state.now × (id_size * most_ids ≤ length out.old) }
     ensures { (s : Server) → Holds s state.now → Listed result out.new (taken_yellow (collected s)).ids }
 {
-    let v = held_slots(state);
+    let states = held(state);
     let c = load(state).context();
-    taken_ids(c, v, state, out)
+    taken_ids(c, &states, out)
 }

@@ -1,16 +1,14 @@
 // Marks, judged on the States as sent: document 01, 'End of exchange'.
-ghost use Rattle.std.specs.Prelude.{◌≡◌, ◌<◌};
-ghost use Rattle.base.specs.Tests.{◌or◌};
+ghost use Rattle.std.specs.Prelude.{◌≡◌};
 ghost use Rattle.format.specs.Types.{State as FormatState};
 ghost use Rattle.record.specs.Values.{primary_of, mark_of};
 ghost use Rattle.replication.specs.Machine.Types.{cleared_mark};
-ghost use Rattle.replication.specs.Machine.Exchange.{taken_primary, same_attempt_of, rule_a, rule_b, joined_bits};
+ghost use Rattle.replication.specs.Machine.Exchange.{same_attempt_of, rule_a, rule_b, joined_bits};
 ghost use Rattle.replication.specs.Machine.Exchange.{judged_mark, mark_left, own_mark, quorum as has_quorum};
-ghost use Rattle.exchange.specs.Slots.{Room, state_in, states_of, if_meant};
+ghost use Rattle.exchange.specs.States.{IsSlot, sent, sent_by};
 ghost use Rattle.exchange.specs.Marks.{against as is_against, likewise as is_likewise, joined_with, with_bits, is_left};
 
-use crate::primary::{taken_attempt, taken_primary};
-use crate::slots::{Slots, head};
+use crate::judging::Judging;
 use record::sets::{has, inside, with_member};
 use record::{AttemptIndex, LastPrimary, Mark, PrimaryIndex, State};
 use votes::linear_vote;
@@ -31,10 +29,7 @@ fn cleared() -> Mark
 fn same_attempt(m: Mark, o: Mark) -> bool
     ensures { result ≡ same_attempt_of (mark_of m) (mark_of o) }
 {
-    if o.index.0 != m.index.0 {
-        return false;
-    }
-    o.attempt.0 == m.attempt.0
+    o.index == m.index && o.attempt == m.attempt
 }
 
 // "alike in index, attempt and set"
@@ -60,167 +55,114 @@ fn rule_a(p: LastPrimary, sender: u8, m: Mark) -> bool
     !has(p.set, sender as usize)
 }
 
-// Whether the State in the slot k clears the mark by rule (b).
-fn against(v: Slots, state: &[u8], k: usize, m: Mark) -> bool
-    requires { Room v state.now × (k < v.servers) }
-    ensures { result ≡ is_against (mark_of m) (state_in v state.now k) }
-{
-    let x = head(v, state, k);
-    if !has(m.set, x.sender as usize) {
-        return false;
+impl<'a> Judging<'a> {
+    // Whether the State in the slot k clears the mark by rule (b).
+    fn against(&self, k: usize, m: Mark) -> bool
+        requires { IsSlot self.now.states k }
+        ensures { result ≡ is_against (mark_of m) (sent_by self.now.states k) }
+    {
+        let x = self.states.head(k);
+        if !has(m.set, x.sender as usize) {
+            return false;
+        }
+        if x.mark.status != 1 {
+            return true;
+        }
+        !same_attempt(m, x.mark)
     }
-    if x.mark.status != 1 {
-        return true;
-    }
-    !same_attempt(m, x.mark)
-}
 
-fn against_at(v: Slots, state: &[u8], k: usize, m: Mark, found: bool) -> bool
-    requires { Room v state.now × (k < v.servers) }
-    ensures { result ≡ if_meant v k (found or is_against (mark_of m) (state_in v state.now k)) found }
-{
-    if !has(v.here, k) {
-        return found;
+    // "(b) a member of the mark's set, present here, sent no mark, or another (index, attempt)"
+    fn rule_b(&self, m: Mark) -> bool
+        ensures { (s : FormatState) → s.mark ≡ mark_of m → result ≡ rule_b (sent self.now.states) s }
+    {
+        self.states.any(|k| self.against(k, m))
     }
-    if found {
-        return true;
-    }
-    against(v, state, k, m)
-}
 
-// "(b) a member of the mark's set, present here, sent no mark, or another (index, attempt)"
-fn rule_b(v: Slots, state: &[u8], m: Mark) -> bool
-    requires { Room v state.now }
-    ensures { (s : FormatState) → s.mark ≡ mark_of m → result ≡ rule_b (states_of v state.now) s }
-{
-    let mut found = false;
-    let mut k = 0;
-    while k < v.servers {
-        found = against_at(v, state, k, m, found);
-        k += 1;
+    fn joined(&self, k: usize, m: Mark, bits: u8) -> u8
+        requires { IsSlot self.now.states k }
+        ensures { (sent_by self.now.states k).sender ≡ k → result ≡ joined_with (mark_of m) bits (sent_by self.now.states k) }
+    {
+        let o = self.states.head(k).mark;
+        if likewise(m, o) {
+            with_member(bits | o.bits, k)
+        } else {
+            bits
+        }
     }
-    found
-}
 
-fn joined_at(v: Slots, state: &[u8], k: usize, m: Mark, bits: u8) -> u8
-    requires { Room v state.now × (k < v.servers) }
-    ensures { result ≡ if_meant v k (joined_with (mark_of m) bits (state_in v state.now k)) bits }
-{
-    if !has(v.here, k) {
-        return bits;
+    // The mark's bits, "joined with those of marks here alike .., and their senders".
+    fn joined_bits(&self, m: Mark) -> u8
+        ensures { (s : FormatState) → s.mark ≡ mark_of m → result ≡ joined_bits (sent self.now.states) s }
+    {
+        self.states.fold(m.bits, |bits, k| self.joined(k, m, bits))
     }
-    let x = head(v, state, k);
-    if !likewise(m, x.mark) {
-        return bits;
-    }
-    with_member(bits | x.mark.bits, k)
-}
 
-// The mark's bits, "joined with those of marks here alike .., and their senders".
-fn joined_bits(v: Slots, state: &[u8], m: Mark) -> u8
-    requires { Room v state.now }
-    ensures { (s : FormatState) → s.mark ≡ mark_of m → result ≡ joined_bits (states_of v state.now) s }
-{
-    let mut bits = m.bits;
-    let mut k = 0;
-    while k < v.servers {
-        bits = joined_at(v, state, k, m, bits);
-        k += 1;
+    // The mark of the slot k after judging.
+    fn judged(&self, k: usize) -> Mark
+        requires { IsSlot self.now.states k }
+        ensures { mark_of result ≡ judged_mark (sent self.now.states) (sent_by self.now.states k) }
+    {
+        let x = self.states.head(k);
+        let m = x.mark;
+        if m.status != 1 {
+            return cleared();
+        }
+        if rule_a(self.taken, x.sender, m) {
+            return cleared();
+        }
+        if self.rule_b(m) {
+            return cleared();
+        }
+        let bits = self.joined_bits(m);
+        if inside(m.set, bits) {
+            return cleared();
+        }
+        // "Otherwise the joined bits are kept."
+        Mark { bits, ..m }
     }
-    bits
-}
 
-// "Otherwise the joined bits are kept."
-fn kept(m: Mark, bits: u8) -> Mark
-    ensures { mark_of result ≡ with_bits bits (mark_of m) }
-{
-    let index = m.index;
-    let attempt = m.attempt;
-    Mark {
-        status: m.status,
-        index,
-        attempt,
-        set: m.set,
-        bits,
+    fn is_left(&self, k: usize) -> bool
+        requires { IsSlot self.now.states k }
+        ensures { result ≡ is_left (sent self.now.states) (sent_by self.now.states k) }
+    {
+        self.judged(k).status == 1
     }
-}
 
-// The mark of the slot k after judging; p is the taken primary.
-pub fn judged(v: Slots, state: &[u8], k: usize, p: LastPrimary) -> Mark
-    requires { Room v state.now × (k < v.servers) × (primary_of p ≡ taken_primary (states_of v state.now)) }
-    ensures { mark_of result ≡ judged_mark (states_of v state.now) (state_in v state.now k) }
-{
-    let x = head(v, state, k);
-    let m = x.mark;
-    if m.status != 1 {
-        return cleared();
+    // Whether some mark is left here.
+    pub fn mark_left(&self) -> bool
+        ensures { result ≡ mark_left (sent self.now.states) }
+    {
+        self.states.any(|k| self.is_left(k))
     }
-    if rule_a(p, x.sender, m) {
-        return cleared();
-    }
-    if rule_b(v, state, m) {
-        return cleared();
-    }
-    let bits = joined_bits(v, state, m);
-    if inside(m.set, bits) {
-        return cleared();
-    }
-    kept(m, bits)
-}
 
-fn left_at(v: Slots, state: &[u8], k: usize, p: LastPrimary, found: bool) -> bool
-    requires { Room v state.now × (k < v.servers) × (primary_of p ≡ taken_primary (states_of v state.now)) }
-    ensures { result ≡ if_meant v k (found or is_left (states_of v state.now) (state_in v state.now k)) found }
-{
-    if !has(v.here, k) {
-        return found;
+    // The own mark, judged on the own State as sent.
+    pub fn own_mark(&self, me: usize) -> Mark
+        ensures { mark_of result ≡ own_mark me (sent self.now.states) (sent self.now.states) }
+    {
+        match self
+            .states
+            .find(|k| self.states.head(k).sender as usize == me)
+        {
+            Some(k) => self.judged(k),
+            None => cleared(),
+        }
     }
-    if found {
-        return true;
-    }
-    judged(v, state, k, p).status == 1
-}
 
-// Whether some mark is left here; p is the taken primary.
-pub fn mark_left(v: Slots, state: &[u8], p: LastPrimary) -> bool
-    requires { Room v state.now × (primary_of p ≡ taken_primary (states_of v state.now)) }
-    ensures { result ≡ mark_left (states_of v state.now) }
-{
-    let mut found = false;
-    let mut k = 0;
-    while k < v.servers {
-        found = left_at(v, state, k, p, found);
-        k += 1;
+    // "Quorum: no mark left here, more than half of the taken primary's members here, and both counters below 4,000,000,000." At exactly half
+    // document 02's K1 decides.
+    pub fn quorum(&self, here: u8) -> bool
+        ensures { result ≡ has_quorum (sent self.now.states) here }
+    {
+        if self.mark_left() {
+            return false;
+        }
+        let p = self.taken;
+        if !linear_vote(p, here) {
+            return false;
+        }
+        if State::MOST_INDEX <= p.index.0 {
+            return false;
+        }
+        self.states.taken_attempt() < State::MOST_INDEX
     }
-    found
-}
-
-// The own mark, judged on the own State as sent; p is the taken primary.
-pub fn own_mark(v: Slots, state: &[u8], me: usize, p: LastPrimary) -> Mark
-    requires { Room v state.now × (me < v.servers) × (primary_of p ≡ taken_primary (states_of v state.now)) }
-    ensures { mark_of result ≡ own_mark me (states_of v state.now) (states_of v state.now) }
-{
-    if !has(v.here, me) {
-        return cleared();
-    }
-    judged(v, state, me, p)
-}
-
-// "Quorum: no mark left here, more than half of the taken primary's members here, and both counters below 4,000,000,000." At exactly half
-// document 02's K1 decides.
-pub fn quorum(v: Slots, state: &[u8], here: u8) -> bool
-    requires { Room v state.now }
-    ensures { result ≡ has_quorum (states_of v state.now) here }
-{
-    let p = taken_primary(v, state);
-    if mark_left(v, state, p) {
-        return false;
-    }
-    if !linear_vote(p, here) {
-        return false;
-    }
-    if State::MOST_INDEX <= p.index.0 {
-        return false;
-    }
-    taken_attempt(v, state) < State::MOST_INDEX
 }

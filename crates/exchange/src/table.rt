@@ -12,7 +12,7 @@ ghost use Rattle.exchange.specs.Slots.{states_left};
 ghost use Rattle.exchange.specs.Table.{place_in, sought_in, Sought, hinted, Hinted, HintsFit, raised, raised_in, RaisedAt, RaisedFrom};
 ghost use Rattle.exchange.specs.Table.{ids_in, SlotInside, SlotsInside};
 
-use crate::slots::{Slots, head, place};
+use crate::states::States;
 use octets::numbers::{num8, num16, wider};
 use record::events::StateHead;
 use record::lists::place_at;
@@ -38,10 +38,8 @@ pub fn hints(c: Context, first: &[u8], ids: usize) -> [u16; State::MOST_IDS]
     ensures { Hinted (context_of c) (sought_in ids first.now) result }
 {
     let mut t: [u16; State::MOST_IDS] = [0; State::MOST_IDS];
-    let mut k = 0;
-    while k < ids {
+    for k in 0..ids {
         leave_hint(c, first, k, &mut t);
-        k += 1;
     }
     t
 }
@@ -51,12 +49,10 @@ fn search(first: &[u8], ids: usize, creator: u8, index: u16) -> usize
     requires { id_size * ids ≤ length first.now }
     ensures { result ≡ place_in (id_of creator index) (sought_in ids first.now) }
 {
-    let mut k = 0;
-    while k < ids {
+    for k in 0..ids {
         if is_id(first, State::ID * k, creator, index) {
             return k;
         }
-        k += 1;
     }
     ids
 }
@@ -167,10 +163,8 @@ fn raise_list(
     requires { HintsFit c ids first.now hints.now × (at + id_size * count ≤ length e.now) × (round < most_servers_limit) }
     ensures { table.new ≡ raised_in ids first.now round table.old (ids_at count e.now at) }
 {
-    let mut j = 0;
-    while j < count {
+    for j in 0..count {
         raise_at(c, first, ids, hints, e, at + State::ID * j, j, round, table);
-        j += 1;
     }
 }
 
@@ -180,24 +174,23 @@ fn raise_slot(
     first: &[u8],
     ids: usize,
     hints: &[u16; State::MOST_IDS],
-    v: Slots,
-    state: &[u8],
+    states: &States<'_>,
     k: usize,
     round: u8,
     table: &mut [u8; State::MOST_IDS],
 )
-    requires { HintsFit c ids first.now hints.now × SlotInside v state.now k × (round < most_servers_limit) }
-    ensures { table.new ≡ raised_in ids first.now round table.old (ids_in v state.now k) }
+    requires { HintsFit c ids first.now hints.now × SlotInside states.now.slots states.now.bytes.now k × (round < most_servers_limit) }
+    ensures { table.new ≡ raised_in ids first.now round table.old (ids_in states.now.slots states.now.bytes.now k) }
 {
-    let x = head(v, state, k);
-    let at = place(v, state, k);
+    let x = states.head(k);
+    let at = states.place(k);
     raise_list(
         c,
         first,
         ids,
         hints,
-        &state[at..],
-        StateHead::SIZE + State::CUT * v.servers,
+        &states.bytes[at..],
+        StateHead::SIZE + State::CUT * states.slots.servers,
         x.yellow_count as usize,
         round,
         table,
@@ -210,19 +203,18 @@ fn raise_turn(
     first: &[u8],
     ids: usize,
     hints: &[u16; State::MOST_IDS],
-    v: Slots,
-    state: &[u8],
+    states: &States<'_>,
     k: usize,
     round: u8,
     table: &mut [u8; State::MOST_IDS],
 ) -> u8
-    requires { HintsFit c ids first.now hints.now × SlotsInside v state.now k × (k < v.servers) × (round < most_servers_limit) }
-    ensures { RaisedAt (sought_in ids first.now) v state.now k round result table.old table.new }
+    requires { HintsFit c ids first.now hints.now × SlotsInside states.now.slots states.now.bytes.now k × (k < states.now.slots.servers) × (round < most_servers_limit) }
+    ensures { RaisedAt (sought_in ids first.now) states.now.slots states.now.bytes.now k round result table.old table.new }
 {
-    if !has(v.here, k) {
+    if !has(states.slots.here, k) {
         return round;
     }
-    raise_slot(c, first, ids, hints, v, state, k, round, table);
+    raise_slot(c, first, ids, hints, states, k, round, table);
     round + 1
 }
 
@@ -232,19 +224,16 @@ pub fn raise_lists(
     first: &[u8],
     ids: usize,
     hints: &[u16; State::MOST_IDS],
-    v: Slots,
-    state: &[u8],
+    states: &States<'_>,
     start: usize,
     table: &mut [u8; State::MOST_IDS],
 ) -> u8
-    requires { HintsFit c ids first.now hints.now × SlotsInside v state.now start }
-    ensures { RaisedFrom ids first.now (states_left v state.now start) result table.old table.new }
+    requires { HintsFit c ids first.now hints.now × SlotsInside states.now.slots states.now.bytes.now start }
+    ensures { RaisedFrom ids first.now (states_left states.now.slots states.now.bytes.now start) result table.old table.new }
 {
     let mut round = 0;
-    let mut k = start;
-    while k < v.servers {
-        round = raise_turn(c, first, ids, hints, v, state, k, round, table);
-        k += 1;
+    for k in start..states.slots.servers {
+        round = raise_turn(c, first, ids, hints, states, k, round, table);
     }
     round
 }

@@ -153,12 +153,12 @@ unfolding state_length sections sum
 clear_room n q s s₁ h e = omega arith
 
 module _ (t : Bool) (n q i m : ℕ) (s : List ℕ) (answer : t ≡ sizes_ok n q) where
-  pub short_outside : not t ≡ true → m ≡ state_length fewest_servers_limit least_quota_limit → length s < m → started 7 s ≡ start_on n q i s
+  pub short_outside : not t ≡ true → m ≡ least_state_length → length s < m → started 7 s ≡ start_on n q i s
   unfolding start_on least_state_length
   short_outside d e l =
       pick_denied t (sizes_ok n q) _ _ _ answer d (pick_lt (length s) (state_length fewest_servers_limit least_quota_limit) _ _ _ (omega arith) refl)
 
-  pub outside : not t ≡ true → m ≡ state_length fewest_servers_limit least_quota_limit → m ≤ length s → started 2 s ≡ start_on n q i s
+  pub outside : not t ≡ true → m ≡ least_state_length → m ≤ length s → started 2 s ≡ start_on n q i s
   unfolding start_on least_state_length
   outside d e l = pick_denied t (sizes_ok n q) _ _ _ answer d (pick_ge (length s) (state_length fewest_servers_limit least_quota_limit) _ _ _ (omega arith) refl)
 

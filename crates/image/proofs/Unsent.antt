@@ -1,5 +1,5 @@
 -- How many own actions wait, by the numbers of a state, and where on the own list they stand.
-use Prim.Native.Nat.{◌-◌, ◌≤◌, ◌<◌}
+use Prim.Native.Nat.{◌-◌, ◌≤◌, min}
 use mathlib.Core.Path.{◌≡◌, ap, ◌∙◌}
 use mathlib.Core.Bool.{true}
 use native.Mathlib.Omega.{arith}
@@ -48,12 +48,7 @@ module _ (h : State) (s : Server) (ok : well_formed s ≡ true) (e : h ≡ heade
   pub sent_within : h.sent ≤ h.numbered
   sent_within = omega (arith, numbered_said, sent_said, (well_formed_facts s ok).log.sent)
 
-  pub all_unsent : h.own_count < h.numbered - h.sent → h.own_count ≡ length (waiting s.log)
-  all_unsent l =
-      let f = well_formed_facts s ok in
-      omega (arith, own_said, numbered_said, sent_said, waiting_count s ok, counted s ok, f.own_list.numbered, f.log.sent)
-
-  pub some_unsent : h.numbered - h.sent ≤ h.own_count → h.numbered - h.sent ≡ length (waiting s.log)
-  some_unsent l =
+  pub unsent_are : min h.own_count (h.numbered - h.sent) ≡ length (waiting s.log)
+  unsent_are =
       let f = well_formed_facts s ok in
       omega (arith, own_said, numbered_said, sent_said, waiting_count s ok, counted s ok, f.own_list.numbered, f.log.sent)

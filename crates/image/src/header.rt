@@ -50,41 +50,37 @@ pub fn unsent(h: State) -> u16
     requires { h.sent ≤ h.numbered }
     ensures { (s : Server) → well_formed s ≡ true → h ≡ header_of s → result ≡ length (waiting s.log) }
 {
-    let behind = h.numbered - h.sent;
-    if h.own_count < behind {
-        return h.own_count;
-    }
-    behind
+    h.own_count.min(h.numbered - h.sent)
 }
 
 fn save_membership(state: &mut [u8], h: State)
     requires { header_size ≤ length state.old }
     ensures { state.new ≡ patched 0 (membership_bytes h) state.old }
 {
-    let quota = h.quota;
-    let id = h.configuration_id;
-    let come = h.come;
+    let quota = h.quota.to_be_bytes();
+    let id = h.configuration_id.to_be_bytes();
+    let come = h.come.to_be_bytes();
     let b: [u8; State::AT_QUEUE_LENGTH] = [
         h.layout,
         h.servers,
-        (quota / 256 % 256) as u8,
-        (quota % 256) as u8,
+        quota[0],
+        quota[1],
         h.me,
         h.mode,
         h.configuration_status,
-        (id / 16777216 % 256) as u8,
-        (id / 65536 % 256) as u8,
-        (id / 256 % 256) as u8,
-        (id % 256) as u8,
+        id[0],
+        id[1],
+        id[2],
+        id[3],
         h.configuration_set,
         h.transitional_status,
         h.transitional_set,
         h.states,
         h.cpcs,
-        (come / 16777216 % 256) as u8,
-        (come / 65536 % 256) as u8,
-        (come / 256 % 256) as u8,
-        (come % 256) as u8,
+        come[0],
+        come[1],
+        come[2],
+        come[3],
     ];
     copy(state, 0, &b);
 }
@@ -94,31 +90,31 @@ fn save_counts(state: &mut [u8], h: State)
     requires { header_size ≤ length state.old }
     ensures { state.new ≡ patched at_queue_length (counts_bytes h) state.old }
 {
-    let queue = h.queue_length;
-    let green = h.green_count;
-    let numbered = h.numbered;
-    let own = h.own_count;
-    let sent = h.sent;
-    let attempt = h.attempt.0;
+    let queue = h.queue_length.to_be_bytes();
+    let green = h.green_count.to_be_bytes();
+    let numbered = h.numbered.to_be_bytes();
+    let own = h.own_count.to_be_bytes();
+    let sent = h.sent.to_be_bytes();
+    let attempt = h.attempt.0.to_be_bytes();
     let b: [u8; State::AT_LAST - State::AT_QUEUE_LENGTH] = [
-        (queue / 16777216 % 256) as u8,
-        (queue / 65536 % 256) as u8,
-        (queue / 256 % 256) as u8,
-        (queue % 256) as u8,
-        (green / 16777216 % 256) as u8,
-        (green / 65536 % 256) as u8,
-        (green / 256 % 256) as u8,
-        (green % 256) as u8,
-        (numbered / 256 % 256) as u8,
-        (numbered % 256) as u8,
-        (own / 256 % 256) as u8,
-        (own % 256) as u8,
-        (sent / 256 % 256) as u8,
-        (sent % 256) as u8,
-        (attempt / 16777216 % 256) as u8,
-        (attempt / 65536 % 256) as u8,
-        (attempt / 256 % 256) as u8,
-        (attempt % 256) as u8,
+        queue[0],
+        queue[1],
+        queue[2],
+        queue[3],
+        green[0],
+        green[1],
+        green[2],
+        green[3],
+        numbered[0],
+        numbered[1],
+        own[0],
+        own[1],
+        sent[0],
+        sent[1],
+        attempt[0],
+        attempt[1],
+        attempt[2],
+        attempt[3],
     ];
     copy(state, State::AT_QUEUE_LENGTH, &b);
 }

@@ -10,10 +10,9 @@ pub mod sizes; // sizes.rt: how long the buffers must be
 pub mod places; // places.rt: where the sections begin
 pub mod starting; // starting.rt: the start in its buffer
 
-use record::State;
 use record::range::sizes_ok;
 use refusals::Refusal;
-use sizes::{out_length, state_length};
+use sizes::{Sizes, least_state_length};
 use starting::begin;
 
 // 0 and the required lengths of both buffers, or 2 where servers or quota is out of range.
@@ -35,10 +34,11 @@ pub fn lengths_of(servers: u32, quota: u32) -> Lengths
             out: 0,
         };
     }
+    let sizes = Sizes { servers, quota };
     Lengths {
         number: 0,
-        state: state_length(servers, quota),
-        out: out_length(servers, quota),
+        state: sizes.state_length(),
+        out: sizes.out_length(),
     }
 }
 
@@ -47,13 +47,12 @@ pub fn start(state: &mut [u8], servers: u32, quota: u32, me: u32) -> Result<(), 
     ensures { started (outcome_number result) state.new ≡ start_on servers quota me state.old }
 {
     if !sizes_ok(servers, quota) {
-        let least = state_length(State::FEWEST_SERVERS as u32, State::LEAST_QUOTA as u32);
-        if state.len() < least as usize {
+        if state.len() < least_state_length() as usize {
             return Err(Refusal::ShortBuffer);
         }
         return Err(Refusal::OutOfRange);
     }
-    if state.len() < state_length(servers, quota) as usize {
+    if state.len() < (Sizes { servers, quota }).state_length() as usize {
         return Err(Refusal::ShortBuffer);
     }
     if servers <= me {

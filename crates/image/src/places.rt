@@ -1,11 +1,11 @@
 // Where the sections of the state's buffer begin.
 ghost use Rattle.std.specs.Prelude.{◌≡◌, ◌≤◌};
-ghost use Rattle.image.specs.Layout.{SizesIn, state_size, the_noted, the_states, the_yellow, the_own, the_queue, offset, most_states_at};
+ghost use Rattle.image.specs.Layout.{state_size, the_noted, the_states, the_yellow, the_own, the_queue, offset, most_states_at};
 ghost use Rattle.image.specs.Layout.{most_state_size, most_yellow_at, most_own_at};
 ghost use Rattle.image.specs.Counts.{place, CountsIn};
 ghost use Rattle.image.specs.Sections.{section_number};
 
-use super::sizes::{CUT, CUT_AND_NOTED, HEADER, ID, SLOT, STATE_HEAD};
+use super::sizes::{CUT, CUT_AND_NOTED, HEADER, ID, SLOT, STATE_HEAD, Sizes};
 use octets::numbers::{num8, num16};
 use record::State;
 use record::range::product;
@@ -23,60 +23,55 @@ pub enum Section {
 // The cuts begin behind the header.
 pub const CUTS: u32 = HEADER;
 
-pub fn noted_at(n: u32, q: u32) -> u32
-    requires { SizesIn n q }
-    ensures { result ≡ offset n q the_noted }
-{
-    CUTS + CUT * n
-}
+impl Sizes {
+    pub fn noted_at(self) -> u32
+        ensures { result ≡ offset self.servers self.quota the_noted }
+    {
+        CUTS + CUT * self.servers
+    }
 
-pub fn states_at(n: u32, q: u32) -> u32
-    requires { SizesIn n q }
-    ensures { (result ≡ offset n q the_states) × (result ≤ most_states_at) }
-{
-    CUTS + CUT_AND_NOTED * n
-}
+    pub fn states_at(self) -> u32
+        ensures { (result ≡ offset self.servers self.quota the_states) × (result ≤ most_states_at) }
+    {
+        CUTS + CUT_AND_NOTED * self.servers
+    }
 
-// A collected State's slot.
-pub fn state_size(n: u32, q: u32) -> u32
-    requires { SizesIn n q }
-    ensures { (result ≡ state_size n q) × (result ≤ most_state_size) }
-{
-    STATE_HEAD + CUT * n + ID * product(n, q)
-}
+    // A collected State's slot.
+    pub fn state_size(self) -> u32
+        ensures { (result ≡ state_size self.servers self.quota) × (result ≤ most_state_size) }
+    {
+        STATE_HEAD + CUT * self.servers + ID * self.most_ids()
+    }
 
-pub fn yellow_at(n: u32, q: u32) -> u32
-    requires { SizesIn n q }
-    ensures { (result ≡ offset n q the_yellow) × (result ≤ most_yellow_at) }
-{
-    states_at(n, q) + product(n, state_size(n, q))
-}
+    pub fn yellow_at(self) -> u32
+        ensures { (result ≡ offset self.servers self.quota the_yellow) × (result ≤ most_yellow_at) }
+    {
+        self.states_at() + product(self.servers, self.state_size())
+    }
 
-pub fn own_at(n: u32, q: u32) -> u32
-    requires { SizesIn n q }
-    ensures { (result ≡ offset n q the_own) × (result ≤ most_own_at) }
-{
-    yellow_at(n, q) + ID * product(n, q)
-}
+    pub fn own_at(self) -> u32
+        ensures { (result ≡ offset self.servers self.quota the_own) × (result ≤ most_own_at) }
+    {
+        self.yellow_at() + ID * self.most_ids()
+    }
 
-pub fn queue_at(n: u32, q: u32) -> u32
-    requires { SizesIn n q }
-    ensures { result ≡ offset n q the_queue }
-{
-    own_at(n, q) + SLOT * q
-}
+    pub fn queue_at(self) -> u32
+        ensures { result ≡ offset self.servers self.quota the_queue }
+    {
+        self.own_at() + SLOT * self.quota
+    }
 
-// Where a section begins, for n servers and the quota q.
-fn section_at(n: u32, q: u32, section: Section) -> u32
-    requires { SizesIn n q }
-    ensures { result ≡ offset n q (section_number section) }
-{
-    match section {
-        Section::Noted => noted_at(n, q),
-        Section::States => states_at(n, q),
-        Section::Yellow => yellow_at(n, q),
-        Section::Own => own_at(n, q),
-        Section::Queue => queue_at(n, q),
+    // Where a section begins.
+    fn section_at(self, section: Section) -> u32
+        ensures { result ≡ offset self.servers self.quota (section_number section) }
+    {
+        match section {
+            Section::Noted => self.noted_at(),
+            Section::States => self.states_at(),
+            Section::Yellow => self.yellow_at(),
+            Section::Own => self.own_at(),
+            Section::Queue => self.queue_at(),
+        }
     }
 }
 
@@ -85,9 +80,9 @@ pub fn place_of(state: &[u8], section: Section) -> usize
     requires { CountsIn state.now }
     ensures { result ≡ place (section_number section) state.now }
 {
-    section_at(
-        num8(state, State::AT_SERVERS) as u32,
-        num16(state, State::AT_QUOTA) as u32,
-        section,
-    ) as usize
+    let sizes = Sizes {
+        servers: num8(state, State::AT_SERVERS) as u32,
+        quota: num16(state, State::AT_QUOTA) as u32,
+    };
+    sizes.section_at(section) as usize
 }

@@ -1,20 +1,20 @@
 -- A byte's bits, as the code reads and sets them, are a set's members.
 use Prim.Native.Nat.{ℕ, ◌*◌, ◌%◌, ◌^◌, ◌≤◌, ◌<◌}
-use mathlib.Core.Path.{◌≡◌, sym, ap}
+use mathlib.Core.Path.{◌≡◌, sym, ap, ◌∙◌}
 use mathlib.Core.Bool.{false}
 use native.Mathlib.Omega.{arith}
 use lib.Bits.{bit_and, bit_or}
-use lib.Dec.{eqb}
+use lib.Dec.{eqb, ltb}
 use mir.Syntax.{w8}
 use mir.Val.{Fits}
 use Rattle.format.specs.Limits.{most_servers_limit}
 use Rattle.base.specs.Sets.{in_set, inside, with_member}
-use Rattle.base.proofs.Branches.{told_eq}
-use Rattle.base.proofs.TestLaws.{Known, known, holds, fails}
+use Rattle.base.proofs.Branches.{told_eq, told_lt}
+use Rattle.base.proofs.TestLaws.{lt_no, Known, known, holds, fails}
 use Rattle.base.proofs.SetLaws.{power_below, member_below}
 
-pub no_member : (k s : ℕ) → Fits w8 s → most_servers_limit ≤ k → false ≡ in_set k s
-no_member k s h l = go (known (in_set k s))
+pub no_member : (k s : ℕ) → Fits w8 s → most_servers_limit ≤ k → ltb k 8 ≡ in_set k s
+no_member k s h l = told_lt k 8 ∙ lt_no k 8 l ∙ go (known (in_set k s))
   where
     go : Known (in_set k s) → false ≡ in_set k s
     go (holds e) = absurd (omega (arith, member_below most_servers_limit k s h.fits e))

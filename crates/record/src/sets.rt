@@ -7,10 +7,7 @@ ghost use Rattle.format.specs.Limits.{most_servers_limit};
 pub fn has(set: u8, k: usize) -> bool
     ensures { result ≡ in_set k set }
 {
-    if 8 <= k {
-        return false;
-    }
-    (set >> k) % 2 == 1
+    k < 8 && (set >> k) % 2 == 1
 }
 
 // Whether each member of s is in t.

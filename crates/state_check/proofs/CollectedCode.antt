@@ -23,8 +23,8 @@ use Rattle.record.specs.declared.events.ActionAt.{ActionAt}
 use Rattle.record.specs.declared.events.StateAt.{StateAt}
 use Rattle.record.specs.declared.events.Event.{Event}
 use Rattle.record.specs.declared.events.Event.TheVariants.{Action, Retransmission, State, Cpc, Regular, Transitional, Request, Recovery}
-use Rattle.reader.specs.declared.Reading.{Reading}
-use Rattle.reader.specs.declared.Reading.TheVariants.{Good, Refused}
+use Rattle.std.specs.Prelude.{Result, Ok, Err}
+use Rattle.refusals.specs.declared.Refusal.{Refusal}
 use Rattle.image.specs.Layout.{state_size}
 use Rattle.state_check.specs.Numbers.{yellow_count_ok}
 use Rattle.state_check.specs.Collected.{is_state, says_state, ids_in_slot, slot_record, holds_state, collected_ok, StatesInside}
@@ -74,11 +74,11 @@ module _ (k i : ℕ) (v : Event) (e : List ℕ) where
 
 -- ---- by the reading
 
-pub refused_state : (k i : ℕ) (r : Reading) (m : ℕ) (e : List ℕ) → r ≡ Refused m → false ≡ says_state k i (meaning r e)
+pub refused_state : (k i : ℕ) (r : Result Event Refusal) (m : Refusal) (e : List ℕ) → r ≡ Err m → false ≡ says_state k i (meaning r e)
 unfolding says_state meaning
 refused_state k i r m e f = rw f refl
 
-pub good_state : (k i : ℕ) (r : Reading) (v : Event) (t : Bool) (e : List ℕ) → r ≡ Good v → ((d : List ℕ) → t ≡ is_state k i (record_of v d))
+pub good_state : (k i : ℕ) (r : Result Event Refusal) (v : Event) (t : Bool) (e : List ℕ) → r ≡ Ok v → ((d : List ℕ) → t ≡ is_state k i (record_of v d))
     → t ≡ says_state k i (meaning r e)
 unfolding says_state meaning
 good_state k i r v t e f h = rw f (h e)
@@ -104,7 +104,7 @@ module _ (c : Context) (b : List ℕ) (at : ℕ) where
   unfolding holds_state ids_in_slot context_of
   slot_denied k i x t e f h = and_no (yellow_count_ok (context_of c) (number_at 2 b (at + (state_count_at + 2 * c.servers)))) _ (ap (yellow_count_ok (context_of c)) (sym e) ∙ sym f ∙ not-true t h)
 
-  pub slot_answered : (k i x : ℕ) (t u : Bool) (r : Reading) → x ≡ number_at 2 b (at + (state_count_at + 2 * c.servers)) → t ≡ yellow_count_ok (context_of c) x → not t ≡ false
+  pub slot_answered : (k i x : ℕ) (t u : Bool) (r : Result Event Refusal) → x ≡ number_at 2 b (at + (state_count_at + 2 * c.servers)) → t ≡ yellow_count_ok (context_of c) x → not t ≡ false
       → meaning r (take (at + (state_head_size + 2 * c.servers + id_size * x) - at) (drop at b)) ≡ read (context_of c) (take (at + (state_head_size + 2 * c.servers + id_size * x) - at) (drop at b))
       → ((e : List ℕ) → u ≡ says_state k i (meaning r e)) → u ≡ holds_state (context_of c) k i b at
   unfolding holds_state ids_in_slot slot_record part_at context_of

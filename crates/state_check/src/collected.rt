@@ -11,10 +11,11 @@ ghost use Rattle.state_check.specs.Collected.{is_state, says_state, holds_state,
 use crate::numbers::yellow_count_ok;
 use image::places::state_size;
 use octets::numbers::num16;
-use reader::{Reading, read};
+use reader::read;
 use record::events::{Event, StateHead};
 use record::sets::has;
 use record::{Context, State};
+use refusals::Refusal;
 
 // Whether an event is a State of this sender in this configuration.
 fn is_state(v: Event, sender: u8, configuration: u32) -> bool
@@ -50,10 +51,10 @@ fn is_state(v: Event, sender: u8, configuration: u32) -> bool
     }
 }
 
-fn says_state(r: Reading, sender: u8, configuration: u32) -> bool
+fn says_state(r: Result<Event, Refusal>, sender: u8, configuration: u32) -> bool
     ensures { (e : List ℕ) → result ≡ says_state sender configuration (meaning r e) }
 {
-    let Reading::Good(v) = r else {
+    let Ok(v) = r else {
         return false;
     };
     is_state(v, sender, configuration)

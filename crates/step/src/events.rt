@@ -55,13 +55,19 @@ fn colour(state: &mut [u8], mode: u8, head: ActionHead, payload: &[u8]) -> Taken
 fn takes_action(mode: u8) -> bool
     ensures { (m : Mode) (a : Action) → mode ≡ mode_number m → result ≡ is_there (on_action m a) }
 {
-    matches!(
-        mode,
-        State::NON_PRIM..=State::EXCHANGE_STATES | State::UN
-    )
+    match mode {
+        State::NON_PRIM..=State::EXCHANGE_STATES => true,
+        State::UN => true,
+        _ => false,
+    }
 }
 
-pub fn on_action(state: &mut [u8], h: State, head: ActionHead, payload: &[u8]) -> Result<Taken, Refusal>
+pub fn on_action(
+    state: &mut [u8],
+    h: State,
+    head: ActionHead,
+    payload: &[u8],
+) -> Result<Taken, Refusal>
     requires { HoldsSuch (InForce h (action (action_of head payload.now))) state.old }
     ensures { ActsAlone (action (action_of head payload.now)) (answer_of result) state }
 {
@@ -86,7 +92,11 @@ pub fn on_action(state: &mut [u8], h: State, head: ActionHead, payload: &[u8]) -
 fn takes_retransmission(mode: u8) -> bool
     ensures { (m : Mode) (p : ℕ) (a : Action) → mode ≡ mode_number m → result ≡ is_there (on_retransmission m p a) }
 {
-    matches!(mode, State::NON_PRIM | State::EXCHANGE_ACTIONS)
+    match mode {
+        State::NON_PRIM => true,
+        State::EXCHANGE_ACTIONS => true,
+        _ => false,
+    }
 }
 
 pub fn on_retransmission(
@@ -124,11 +134,24 @@ fn state_from_member(h: State, k: u8, id: u32) -> bool
     requires { k < most_servers_limit }
     ensures { FromMember k id h result }
 {
-    is_member(h, k) && is_of(h, id) && !state_in(h, k)
+    if !is_member(h, k) {
+        return false;
+    }
+    if !is_of(h, id) {
+        return false;
+    }
+    !state_in(h, k)
 }
 
 // The State of server k in configuration `id`: the whole event.
-pub fn on_state(state: &mut [u8], out: &mut [u8], h: State, k: u8, id: u32, event: &[u8]) -> Result<Taken, Refusal>
+pub fn on_state(
+    state: &mut [u8],
+    out: &mut [u8],
+    h: State,
+    k: u8,
+    id: u32,
+    event: &[u8],
+) -> Result<Taken, Refusal>
     requires { LentSuch (StateInForce h k id event.now) state.old out.old }
     ensures { AnswersState k id event.now (answer_of result) state out }
 {
@@ -148,7 +171,12 @@ pub fn on_state(state: &mut [u8], out: &mut [u8], h: State, k: u8, id: u32, even
 fn takes_cpc(mode: u8) -> bool
     ensures { (m : Mode) (k : ℕ) → mode ≡ mode_number m → result ≡ is_there (on_cpc m k) }
 {
-    matches!(mode, State::NON_PRIM | State::CONSTRUCT | State::NO)
+    match mode {
+        State::NON_PRIM => true,
+        State::CONSTRUCT => true,
+        State::NO => true,
+        _ => false,
+    }
 }
 
 // Row 6 does not apply to the CPC of server k in configuration `id`.
@@ -156,7 +184,13 @@ fn cpc_from_member(h: State, k: u8, id: u32) -> bool
     requires { k < most_servers_limit }
     ensures { (s : Server) → h ≡ header_of s → result ≡ from_member s.membership (cpc k id) }
 {
-    is_member(h, k) && is_of(h, id) && !cpc_in(h, k)
+    if !is_member(h, k) {
+        return false;
+    }
+    if !is_of(h, id) {
+        return false;
+    }
+    !cpc_in(h, k)
 }
 
 pub fn on_cpc(state: &mut [u8], out: &mut [u8], h: State, k: u8, id: u32) -> Result<Taken, Refusal>
@@ -179,7 +213,13 @@ pub fn on_cpc(state: &mut [u8], out: &mut [u8], h: State, k: u8, id: u32) -> Res
     Ok(Taken::quiet())
 }
 
-pub fn on_regular(state: &mut [u8], out: &mut [u8], h: State, id: u32, set: u8) -> Result<Taken, Refusal>
+pub fn on_regular(
+    state: &mut [u8],
+    out: &mut [u8],
+    h: State,
+    id: u32,
+    set: u8,
+) -> Result<Taken, Refusal>
     requires { LentSuch (InForce h (regular id set)) state.old out.old }
     ensures { AnswersTo (regular id set) (answer_of result) state out }
 {
@@ -211,7 +251,12 @@ pub fn on_transitional(state: &mut [u8], h: State, set: u8) -> Result<Taken, Ref
     Ok(Taken::quiet())
 }
 
-pub fn on_request(state: &mut [u8], out: &mut [u8], h: State, payload: &[u8]) -> Result<Taken, Refusal>
+pub fn on_request(
+    state: &mut [u8],
+    out: &mut [u8],
+    h: State,
+    payload: &[u8],
+) -> Result<Taken, Refusal>
     requires { LentSuch (InForce h (request_record payload.now)) state.old out.old }
     ensures { AnswersTo (request_record payload.now) (answer_of result) state out }
 {

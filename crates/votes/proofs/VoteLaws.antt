@@ -1,4 +1,4 @@
--- The later of two last primaries, and the vote by counting ones.
+-- A choice by a test, and the vote by counting ones.
 use Prim.Native.Nat.{ℕ, zero, suc, ◌+◌, ◌*◌, ◌/◌, ◌%◌, ◌^◌, ◌≤◌, ◌<◌}
 use mathlib.Core.Path.{◌≡◌, refl, sym, ap, ◌∙◌}
 use mathlib.Core.Bool.{Bool, true, false}
@@ -7,31 +7,22 @@ use native.Mathlib.Numerals.{add-one}
 use native.Mathlib.Omega.{arith}
 use lib.Bits.{bit_and, and_le_l}
 use lib.Count.{ones, ones-le, under, count_trailing_zeros}
-use lib.Dec.{ltb}
 use Rattle.base.specs.Tests.{pick}
 use Rattle.base.proofs.TestLaws.{pick_yes, pick_no, and_no, and_yes, lt_yes, lt_no, eq_yes, eq_no}
-use Rattle.base.proofs.Branches.{told_lt, or_yes, or_no}
+use Rattle.base.proofs.Branches.{or_yes, or_no}
 use Rattle.base.specs.Sets.{in_set, size, common, first_member, lowest_member}
 use Rattle.format.specs.Limits.{most_servers_limit}
 use Rattle.record.specs.Values.{primary_of}
 use Rattle.record.specs.declared.LastPrimary.{LastPrimary}
-use Rattle.replication.specs.Machine.Exchange.{later, more_than_half, lowest_of, half_with_lowest, linear_vote}
+use Rattle.replication.specs.Machine.Exchange.{more_than_half, lowest_of, half_with_lowest, linear_vote}
 
--- ---- the later one
+-- ---- a choice
 
-pub later_index : (p r : LastPrimary) → p.index.0 < r.index.0 → true ≡ later (primary_of p) (primary_of r)
-unfolding later primary_of
-later_index p r h = or_yes _ _ (lt_yes p.index.0 r.index.0 h)
+pub chosen_yes : {A : Type 0} (t u : Bool) (x y : A) → u ≡ t → u ≡ true → x ≡ pick t x y
+chosen_yes t u x y e h = pick_yes t x x y (sym e ∙ h) refl
 
-pub later_not : (p r : LastPrimary) → r.index.0 ≤ p.index.0 → (p.index.0 ≡ r.index.0 → ⊥) → false ≡ later (primary_of p) (primary_of r)
-unfolding later primary_of
-later_not p r h n = or_no false _ _ (lt_no p.index.0 r.index.0 h) (and_no _ _ (eq_no p.index.0 r.index.0 n))
-
-pub later_attempt : (p r : LastPrimary) → r.index.0 ≤ p.index.0 → p.index.0 ≡ r.index.0
-    → ltb p.attempt.0 r.attempt.0 ≡ later (primary_of p) (primary_of r)
-unfolding later primary_of
-later_attempt p r h e =
-    or_no _ _ _ (lt_no p.index.0 r.index.0 h) (and_yes _ _ _ (eq_yes p.index.0 r.index.0 e) (told_lt p.attempt.0 r.attempt.0))
+pub chosen_no : {A : Type 0} (t u : Bool) (x y : A) → u ≡ t → u ≡ false → y ≡ pick t x y
+chosen_no t u x y e h = pick_no t y x y (sym e ∙ h) refl
 
 -- ---- the vote
 

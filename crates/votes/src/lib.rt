@@ -3,6 +3,7 @@
 
 ghost use Rattle.std.specs.Prelude.{◌≡◌};
 ghost use Rattle.base.specs.Sets.{lowest_member};
+ghost use Rattle.base.specs.Tests.{pick};
 ghost use Rattle.format.specs.Limits.{most_servers_limit};
 ghost use Rattle.record.specs.Values.{primary_of};
 ghost use Rattle.replication.specs.Machine.Exchange.{later as is_later, linear_vote};
@@ -26,24 +27,19 @@ pub fn linear_vote(p: LastPrimary, here: u8) -> bool
     let present = set & here;
     let all = u8::count_ones(set);
     let twice = 2 * u8::count_ones(present);
-    if all < twice {
-        return true;
-    }
-    if twice != all {
-        return false;
-    }
-    has(present, lowest_member(set))
+    all < twice || twice == all && has(present, lowest_member(set))
 }
 
 // Whether r has a higher (index, attempt) than p.
-pub fn later(p: LastPrimary, r: LastPrimary) -> bool
+fn later(p: LastPrimary, r: LastPrimary) -> bool
     ensures { result ≡ is_later (primary_of p) (primary_of r) }
 {
-    if p.index.0 < r.index.0 {
-        return true;
-    }
-    if p.index.0 != r.index.0 {
-        return false;
-    }
-    p.attempt.0 < r.attempt.0
+    p.index.0 < r.index.0 || p.index == r.index && p.attempt.0 < r.attempt.0
+}
+
+// The one with the higher (index, attempt), and p where neither has.
+pub fn later_of(p: LastPrimary, r: LastPrimary) -> LastPrimary
+    ensures { result ≡ pick (is_later (primary_of p) (primary_of r)) r p }
+{
+    if later(p, r) { r } else { p }
 }

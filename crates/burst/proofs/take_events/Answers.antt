@@ -1,12 +1,16 @@
 use Rattle.burst.proofs.BurstCode.{along_starts, along_stops, along_inside, along_less, end_fits, taken_fits, along_refused, along_ends, along_on}
+use Rattle.step.proofs.ReadingLaws.{above_zero}
 use borrow.Author.Rules.{rules}
 use Rattle.burst.proofs.take_events.Goals as goal
 
 pub loop-size-init : goal.loop-size-init
 loop-size-init c = search (rules, along_starts)
 
-pub returns-in_default : goal.returns-in_default
-returns-in_default c = search (rules, along_stops)
+pub returns-in-Ok-None : goal.returns-in-Ok-None
+returns-in-Ok-None c = search (rules, along_stops)
+
+pub returns-in-Err : goal.returns-in-Err
+returns-in-Err c = search (rules, along_stops)
 
 pub overflow_add-end : goal.overflow_add-end
 overflow_add-end c = search (rules, end_fits)
@@ -14,8 +18,8 @@ overflow_add-end c = search (rules, end_fits)
 pub slice_bounds-step-end : goal.slice_bounds-step-end
 slice_bounds-step-end c = search (rules, along_inside)
 
-pub returns-then-a-ne0 : goal.returns-then-a-ne0
-returns-then-a-ne0 c = search (rules, along_refused)
+pub returns-in-Err-2 : goal.returns-in-Err-2
+returns-in-Err-2 c = search (rules, along_refused, above_zero)
 
 pub overflow_add-taken : goal.overflow_add-taken
 overflow_add-taken c = search (rules, taken_fits)

@@ -8,11 +8,8 @@ pub returns-then-not-sizes_ok : goal.returns-then-not-sizes_ok
 unfolding lengths_of
 returns-then-not-sizes_ok c = search (rules, pick_denied)
 
-pub state_length-requires : goal.state_length-requires
-state_length-requires c = search (rules, sizes_answered)
-
-pub out_length-requires : goal.out_length-requires
-out_length-requires c = search (rules, sizes_answered)
+pub invariant_of-sizes : goal.invariant_of-sizes
+invariant_of-sizes c = search (rules, sizes_answered)
 
 pub returns : goal.returns
 unfolding lengths_of

@@ -3,14 +3,14 @@ use Rattle.image.proofs.StartLaws.{short_outside, outside, short_inside, own_out
 use borrow.Author.Rules.{rules}
 use Rattle.image.proofs.start.Goals as goal
 
-pub returns-then-state-least : goal.returns-then-state-least
-returns-then-state-least c = search (rules, short_outside)
+pub returns-then-state-least_state_length : goal.returns-then-state-least_state_length
+returns-then-state-least_state_length c = search (rules, short_outside)
 
 pub returns-then-not-sizes_ok : goal.returns-then-not-sizes_ok
 returns-then-not-sizes_ok c = search (rules, outside)
 
-pub state_length-requires : goal.state_length-requires
-state_length-requires c = search (rules, sizes_answered)
+pub invariant_of-state_length : goal.invariant_of-state_length
+invariant_of-state_length c = search (rules, sizes_answered)
 
 pub returns-then-state-state_length : goal.returns-then-state-state_length
 returns-then-state-state_length c = search (rules, short_inside)

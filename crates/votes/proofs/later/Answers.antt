@@ -1,12 +1,17 @@
-use borrow.Author.Rules.{rules}
-use Rattle.votes.proofs.VoteLaws.{later_index, later_not, later_attempt}
+use native.Mathlib.Omega.{arith}
+use Rattle.base.specs.Tests.{◌and◌, ◌or◌, ◌=?◌, ◌<?◌}
+use Rattle.record.specs.Values.{primary_of}
+use Rattle.replication.specs.Machine.Exchange.{later as is_later}
 use Rattle.votes.proofs.later.Goals as goal
 
 pub returns-then-p-r : goal.returns-then-p-r
-returns-then-p-r c = search (rules, later_index)
+unfolding is_later primary_of ◌or◌ ◌<?◌
+returns-then-p-r c = grind arith
 
-pub returns-then-p-r-2 : goal.returns-then-p-r-2
-returns-then-p-r-2 c = search (rules, later_not)
+pub returns-then-eq : goal.returns-then-eq
+unfolding is_later primary_of ◌and◌ ◌or◌ ◌=?◌ ◌<?◌
+returns-then-eq c = grind arith
 
-pub returns : goal.returns
-returns c = search (rules, later_attempt)
+pub returns-else-eq : goal.returns-else-eq
+unfolding is_later primary_of ◌and◌ ◌or◌ ◌=?◌ ◌<?◌
+returns-else-eq c = grind arith

@@ -10,7 +10,7 @@ pub returns-then-all-twice : goal.returns-then-all-twice
 returns-then-all-twice c = search (rules, vote_more)
 
 pub returns-then-twice-all : goal.returns-then-twice-all
-returns-then-twice-all c = search (rules, vote_fewer)
+returns-then-twice-all c = search (rules, vote_half)
 
-pub returns : goal.returns
-returns c = search (rules, vote_half)
+pub returns-else-twice-all : goal.returns-else-twice-all
+returns-else-twice-all c = search (rules, vote_fewer)

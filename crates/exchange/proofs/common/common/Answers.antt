@@ -6,7 +6,7 @@ pub common_of-requires : goal.common_of-requires
 common_of-requires c = (
   search rules,
   search (rules, first_sought),
-  record { room = search rules; most = search rules; lists = search (rules, fits_inside) },
+  record { most = search rules; lists = search (rules, fits_inside) },
   search (rules, first_short),
 )
 

@@ -6,6 +6,3 @@ use Rattle.exchange.proofs.common.keep.Given as goal
 
 abbrev pub invariant-loop-j : goal.invariant-loop-j
 invariant-loop-j l = Kept (is_kept (sought_in l.ids l.first) l.round l.table) l.first 0 l.ids l.j l.kept (length l.initial.out) l.out
-
-abbrev pub decreases-loop-j : goal.decreases-loop-j
-decreases-loop-j l = l.ids - l.j

@@ -1,15 +1,17 @@
 use native.Mathlib.Omega.{arith}
 use Rattle.image.proofs.InPlace.{such_header}
-use Rattle.exchange.proofs.ResendLaws.{green_within}
-use Rattle.exchange.proofs.DecidedLaws.{room_held, green_told}
+use Rattle.replication.specs.Machine.Plan.{green_in}
+use Rattle.exchange.specs.Folds.{Tells}
+use Rattle.exchange.proofs.ReadLaws.{green_read}
+use Rattle.exchange.proofs.DecidedLaws.{part_told}
 use borrow.Author.Rules.{rules}
 use Rattle.exchange.proofs.decided.resends_green.Goals as goal
 
 pub num8-me-requires : goal.num8-me-requires
 num8-me-requires c = omega (arith, such_header _ _ c.requires)
 
-pub part_by-requires : goal.part_by-requires
-part_by-requires c = search (rules, room_held, green_within)
-
 pub returns : goal.returns
-returns c = search (rules, green_told)
+unfolding Tells
+returns c =
+    part_told _ _ _ c.held-states.ensures.slots c.held-states.ensures.bytes green_in _ _ c.num8-me.ensures
+    (c.part.ensures green_in (λ k r l m e. search (rules, green_read)))

@@ -1,9 +1,13 @@
-use borrow.Author.Rules.{rules}
-use Rattle.exchange.proofs.MarkLaws.{attempt_not, attempt_told}
+use native.Mathlib.Omega.{arith}
+use Rattle.base.specs.Tests.{◌and◌, ◌=?◌}
+use Rattle.record.specs.Values.{mark_of}
+use Rattle.replication.specs.Machine.Exchange.{same_attempt_of}
 use Rattle.exchange.proofs.marks.same_attempt.Goals as goal
 
-pub returns-then-o-m : goal.returns-then-o-m
-returns-then-o-m c = search (rules, attempt_not)
+pub returns-then-eq : goal.returns-then-eq
+unfolding same_attempt_of mark_of ◌and◌ ◌=?◌
+returns-then-eq c = grind arith
 
-pub returns : goal.returns
-returns c = search (rules, attempt_told)
+pub returns-else-eq : goal.returns-else-eq
+unfolding same_attempt_of mark_of ◌and◌ ◌=?◌
+returns-else-eq c = grind arith

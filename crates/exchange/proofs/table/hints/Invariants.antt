@@ -5,6 +5,3 @@ use Rattle.exchange.proofs.table.hints.Given as goal
 
 abbrev pub invariant-loop-k : goal.invariant-loop-k
 invariant-loop-k l = Hints (context_of l.c) l.ids l.k l.first l.t
-
-abbrev pub decreases-loop-k : goal.decreases-loop-k
-decreases-loop-k l = l.ids - l.k

@@ -9,6 +9,3 @@ use Rattle.exchange.proofs.table.raise_list.Given as goal
 abbrev pub invariant-loop-j : goal.invariant-loop-j
 invariant-loop-j l =
     (l.j ≤ l.count) × (raised_all (sought_in l.ids l.first) l.round l.initial.table (ids_at l.count l.e l.at) ≡ raised_all (sought_in l.ids l.first) l.round l.table (ids_at (l.count - l.j) l.e (l.at + id_size * l.j)))
-
-abbrev pub decreases-loop-j : goal.decreases-loop-j
-decreases-loop-j l = l.count - l.j

@@ -6,12 +6,6 @@ use Rattle.exchange.proofs.table.raise_lists.Goals as goal
 pub loop-k-init : goal.loop-k-init
 loop-k-init c = search (rules, met_start)
 
-pub overflow_add-k : goal.overflow_add-k
-overflow_add-k c = omega arith
-
-pub loop-k-smaller : goal.loop-k-smaller
-loop-k-smaller c = omega arith
-
 pub loop-k-preserved : goal.loop-k-preserved
 loop-k-preserved c = search (rules, met_again)
 

@@ -9,6 +9,3 @@ use Rattle.exchange.proofs.table.search.Given as goal
 abbrev pub invariant-loop-k : goal.invariant-loop-k
 invariant-loop-k l =
     (l.k ≤ l.ids) × (place_in (id_of l.creator l.index) (sought_in l.ids l.first) ≡ l.k + place_in (id_of l.creator l.index) (ids_at (l.ids - l.k) l.first (0 + id_size * l.k)))
-
-abbrev pub decreases-loop-k : goal.decreases-loop-k
-decreases-loop-k l = l.ids - l.k

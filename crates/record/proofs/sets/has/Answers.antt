@@ -4,9 +4,9 @@ use Rattle.record.proofs.SetCode.{no_member}
 use borrow.Author.Rules.{rules}
 use Rattle.record.proofs.sets.has.Goals as goal
 
-pub returns-then-k-ge8 : goal.returns-then-k-ge8
-returns-then-k-ge8 c = search (rules, no_member)
+pub returns-else-k-lt8 : goal.returns-else-k-lt8
+returns-else-k-lt8 c = search (rules, no_member)
 
-pub returns : goal.returns
+pub returns-then-k-lt8 : goal.returns-then-k-lt8
 unfolding in_set
-returns c = search (rules, told)
+returns-then-k-lt8 c = search (rules, told)

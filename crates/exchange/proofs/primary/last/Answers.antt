@@ -1,6 +1,0 @@
-use Rattle.exchange.proofs.PrimaryLaws.{last_read}
-use borrow.Author.Rules.{rules}
-use Rattle.exchange.proofs.primary.last.Goals as goal
-
-pub returns : goal.returns
-returns c = search (rules, last_read)

@@ -1,6 +1,0 @@
-use Rattle.exchange.proofs.ReadLaws.{head_made}
-use borrow.Author.Rules.{rules}
-use Rattle.exchange.proofs.slots.head.Goals as goal
-
-pub returns : goal.returns
-returns c = search (rules, head_made)

@@ -1,6 +1,0 @@
-use Rattle.image.proofs.PlaceLaws.{noted_place}
-use borrow.Author.Rules.{rules}
-use Rattle.image.proofs.places.noted_at.Goals as goal
-
-pub returns : goal.returns
-returns c = search (rules, noted_place)

@@ -1,6 +1,0 @@
-use Rattle.image.proofs.PlaceLaws.{own_place}
-use borrow.Author.Rules.{rules}
-use Rattle.image.proofs.places.own_at.Goals as goal
-
-pub returns : goal.returns
-returns c = search (rules, own_place)
