@@ -116,10 +116,9 @@ fn send_green(state: &[u8], out: &mut [u8], me: u8) -> usize
     requires { Stated state.now × OwnNumber me state.now × RoomFor (green_part state.now) out.old }
     ensures { SendsAll (green_part state.now) out result }
 {
-    let part = resends_green(state);
-    if !part.mine {
+    let Some(part) = resends_green(state) else {
         return 0;
-    }
+    };
     let low = part.low.max(white_length(state));
     let high = part.high.min(green_length(state));
     send_positions(state, out, me, low, high)
@@ -130,10 +129,9 @@ fn send_red(state: &[u8], out: &mut [u8], places: &[u16; State::MOST_IDS], me: u
     requires { Resends places.now me state.now × (c < servers_in state.now) × RoomFor (red_part state.now c) out.old }
     ensures { SendsAll (red_part state.now c) out result }
 {
-    let part = resends_red(state, c as usize);
-    if !part.mine {
+    let Some(part) = resends_red(state, c as usize) else {
         return 0;
-    }
+    };
     send_creator(state, out, places, me, c, part.low, part.high)
 }
 
