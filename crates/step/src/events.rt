@@ -21,12 +21,12 @@ use crate::joining::{join, join_unmarked, join_yellow};
 use crate::requests::request;
 use crate::sieve::{pass, pass_at};
 use guards::{
-    NO_MODE, after_transitional, cpc_in, is_member, is_of, numbered_own, quota_left, regular_due,
+    after_transitional, cpc_in, is_member, is_of, numbered_own, quota_left, regular_due,
     state_in, transitional_due,
 };
 use queue::counting::count_of;
 use queue::entering::red;
-use record::{ActionHead, State};
+use record::{ActionHead, ActionId, State};
 use refusals::Refusal;
 use updates::membership::leave;
 
@@ -71,10 +71,14 @@ pub fn on_action(
     requires { HoldsSuch (InForce h (action (action_of head payload.now))) state.old }
     ensures { ActsAlone (action (action_of head payload.now)) (answer_of result) state }
 {
+    let id = ActionId {
+        creator: head.creator,
+        index: head.index,
+    };
     if !takes_action(h.mode) {
         return Err(Refusal::NotNow);
     }
-    if !numbered_own(h, head.creator, head.index) {
+    if !numbered_own(h, id) {
         return Err(Refusal::NotNow);
     }
     if !is_member(h, head.creator) {
@@ -111,10 +115,14 @@ pub fn on_retransmission(
     requires { LentSuch (InForce h (retransmission sender position (action_of head payload.now))) state.old out.old }
     ensures { Acts (retransmission sender position (action_of head payload.now)) (answer_of result) state out }
 {
+    let id = ActionId {
+        creator: head.creator,
+        index: head.index,
+    };
     if !takes_retransmission(h.mode) {
         return Err(Refusal::NotNow);
     }
-    if !numbered_own(h, head.creator, head.index) {
+    if !numbered_own(h, id) {
         return Err(Refusal::NotNow);
     }
     if !is_member(h, sender) {
@@ -240,10 +248,9 @@ pub fn on_transitional(state: &mut [u8], h: State, set: u8) -> Result<Taken, Ref
     requires { HoldsSuch (InForce h (transitional set)) state.old }
     ensures { AnswersToAlone (transitional set) (answer_of result) state }
 {
-    let mode = after_transitional(h.mode);
-    if mode == NO_MODE {
+    let Some(mode) = after_transitional(h.mode) else {
         return Err(Refusal::NotNow);
-    }
+    };
     if !transitional_due(h) {
         return Err(Refusal::NotNow);
     }
