@@ -107,7 +107,7 @@ def places(files):
     yield 1, "enums; flags beside values; numbers for kinds, states and refusals", [
         *lines_of(files, r"^\s*(pub )?enum (Framed|Reading|Written|Next|Going|Group)\b"),
         *lines_of(files, r"^\s*(pub )?\w+: bool,$", r"fn "),
-        *lines_of(files, r"const [A-Z_]+: u(8|32) = \d+;"),
+        *lines_of(files, r"const [A-Z_]+: u(8|32) = \d+;", r"VERSION|SERVERS|FILL"),
         *lines_of(files, r"return (Answer::refused\(|Setup::refused\(|\w+::stopped\()?(BAD_RECORD|OUT_OF_RANGE|QUOTA_USED|NOT_NOW|NOT_FROM_HERE|SHORT_BUFFER|BAD_STATE|PEG_THERE|PEG_NOT_THERE|NO_OPERATION|BAD_RECTANGLE|REGISTER_FULL|Reading::\w+)\b"),
         *lines_of(files, r"if (\w+(\.\w+)?|\w+\(.*\)) [!=]= (0|SHORT_BUFFER) \{"),
     ]

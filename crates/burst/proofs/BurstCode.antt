@@ -11,17 +11,35 @@ use borrow.Author.Tests.{not-true, not-false, ne_eqb}
 use mir.Syntax.{w64}
 use mir.Val.{Fits}
 use Rattle.base.specs.Tests.{◌and◌, ◌=?◌}
-use Rattle.base.proofs.TestLaws.{pick_eq, pick_ne}
+use Rattle.base.proofs.TestLaws.{not_both, pick_eq, pick_ne}
 use Rattle.format.specs.Places.{length_size}
 use Rattle.image.specs.Outcome.{Result, step_on, state_number}
 use Rattle.step.specs.declared.Answer.{Answer}
 use Rattle.step.specs.Answers.{answered}
 use Rattle.burst.specs.declared.BurstAnswer.{BurstAnswer}
 use Rattle.burst.specs.Next.{Next}
-use Rattle.burst.specs.Next.{Event, Stop}
+use Rattle.burst.specs.Next.{Event, Stop, next_as}
+use Rattle.std.specs.Prelude.{Result as Fallible, Ok, Err, Option as Maybe, Some, None}
+use Rattle.std.specs.Int.{from_bool}
+use Rattle.refusals.specs.declared.Refusal.{Refusal}
+use Rattle.refusals.specs.Numbers.{refusal_number}
 use Rattle.burst.specs.Burst.{next_of, EndsIn, Burst, stopped, ended, behind, silent, burst_from, burst_all, burst_on, stopped_behind, left}
 use Rattle.burst.proofs.KeptLaws.{step_kept, refused_left}
 use Rattle.burst.proofs.BurstLaws.{from_stop, going, from_event, after_refused, after_ended, after_silent, behind_none, behind_behind}
+
+-- ---- whether a step has stored or put out anything
+
+pub silent_yes : (s : Bool) (n : ℕ) → not s ≡ true → eqb n 0 ≡ (from_bool s =? 0 and n =? 0)
+unfolding ◌and◌ ◌=?◌
+silent_yes false n h = refl
+silent_yes true n h = not_both h
+
+pub silent_no : (s : Bool) (n : ℕ) → not s ≡ false → not s ≡ (from_bool s =? 0 and n =? 0)
+unfolding ◌and◌ ◌=?◌
+silent_no false n h = not_both (sym h)
+silent_no true n h = refl
+
+-- ---- along the slice
 
 -- What the events so far have come to: the whole burst is what is left, behind them.
 pub record Along (b₀ e o₀ b o : List ℕ) (n at : ℕ) : Type 0 where
@@ -69,17 +87,29 @@ module _ (b₀ e o₀ b o : List ℕ) (n at : ℕ) (a : Along b₀ e o₀ b o n 
       let bytes : at ≡ at + 0 = omega arith in
       λ i. record { number = k; events = events i; bytes = bytes i; store = 0; sent = 0; state = b; out = o }
 
-  module _ (x : Next) (is_next_lem : x ≡ next_of (eqb n 0) (take (length e - at) (drop at e))) where
+  module _ (w : Fallible (Maybe ℕ) Refusal) (is_next_lem : next_as w ≡ next_of (eqb n 0) (take (length e - at) (drop at e))) where
+    abbrev x : Next
+    x = next_as w
+
     next_is : next_of (eqb n 0) ahead ≡ x
     next_is = sym (is_next_lem ∙ ap (next_of (eqb n 0)) (take_all (length e - at) ahead (omega (arith, ahead_long))))
 
-    pub along_stops : (j k : ℕ) (r : BurstAnswer) → x ≡ Stop j → k ≡ j → r ≡ stopped_behind k n at → left r b o ≡ burst_all b₀ e o₀
+    along_stops : (j k : ℕ) (r : BurstAnswer) → x ≡ Stop j → k ≡ j → r ≡ stopped_behind k n at → left r b o ≡ burst_all b₀ e o₀
     along_stops j k r h same t =
         ap (λ (y : BurstAnswer). left y b o) t
         ∙ stopped_is k ∙ ap (λ (y : ℕ). behind n at (stopped y b o)) same
         ∙ whole_is (stopped j b o) (λ d l. from_stop d (eqb n 0) b ahead o j (next_is ∙ h))
 
-    module _ (m : ℕ) (h : x ≡ Event m) (fits : EndsIn x (take (length e - at) (drop at e))) where
+    pub along_none : (z : Maybe ℕ) (r : BurstAnswer) → w ≡ Ok z → z ≡ None → r ≡ stopped_behind 0 n at → left r b o ≡ burst_all b₀ e o₀
+    along_none z r g i t = along_stops 0 0 r (ap next_as g ∙ ap (λ (u : Maybe ℕ). next_as (Ok u)) i) refl t
+
+    pub along_bad : (k : Refusal) (i : ℕ) (r : BurstAnswer) → w ≡ Err k → i ≡ refusal_number k → r ≡ stopped_behind i n at → left r b o ≡ burst_all b₀ e o₀
+    along_bad k i r g same t = along_stops (refusal_number k) i r (ap next_as g) same t
+
+    module _ (found : Maybe ℕ) (m : ℕ) (g : w ≡ Ok found) (is-size : found ≡ Some m) (fits : EndsIn (next_as w) (take (length e - at) (drop at e))) where
+      h : x ≡ Event m
+      h = ap next_as g ∙ ap (λ (u : Maybe ℕ). next_as (Ok u)) is-size
+
       sizes : (length_size ≤ m) × (at + m ≤ length e)
       unfolding EndsIn
       sizes =
@@ -117,11 +147,11 @@ module _ (b₀ e o₀ b o : List ℕ) (n at : ℕ) (a : Along b₀ e o₀ b o n 
         from_is : (d : ℕ) → burst_from (suc d) (eqb n 0) b ahead o ≡ going d (eqb n 0) b ahead o m (answered y b₁ o₁)
         from_is d = from_event d (eqb n 0) b ahead o m (next_is ∙ h) ∙ ap (going d (eqb n 0) b ahead o m) step_is
 
-        pub along_refused : (r : BurstAnswer) → (y.number ≡ 0 → ⊥) → r ≡ stopped_behind y.number n at → left r b₁ o₁ ≡ burst_all b₀ e o₀
+        pub along_refused : (k : ℕ) (r : BurstAnswer) → (y.number ≡ 0 → ⊥) → k ≡ y.number → r ≡ stopped_behind k n at → left r b₁ o₁ ≡ burst_all b₀ e o₀
         unfolding answered
-        along_refused r z t =
+        along_refused k r z same t =
             let kept = refused_left b (take m ahead) o (λ q. z (sym (ap (λ (r : Result). r.number) step_is) ∙ q)) in
-            (λ i. left (t i) ((sym state_is ∙ kept.0) i) ((sym out_is ∙ kept.1) i))
+            (λ i. left ((t ∙ ap (λ (j : ℕ). stopped_behind j n at) same) i) ((sym state_is ∙ kept.0) i) ((sym out_is ∙ kept.1) i))
             ∙ stopped_is y.number
             ∙ whole_is (stopped y.number b o) (λ d l. from_is d ∙ after_refused b o m (answered y b₁ o₁) _ z)
 

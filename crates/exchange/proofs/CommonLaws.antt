@@ -1,5 +1,5 @@
 -- The ids common to the yellow lists that count.
-use Prim.Native.Nat.{ℕ, zero, suc, ◌+◌, ◌*◌, ◌-◌, ◌≤◌, ◌<◌}
+use Prim.Native.Nat.{ℕ, zero, suc, ◌+◌, ◌*◌, ◌-◌, ◌≤◌}
 use mathlib.Core.Path.{◌≡◌, refl, sym, ap, subst, ◌∙◌}
 use mathlib.Core.Bool.{Bool, true, false}
 use mathlib.Core.List.{List, [], ◌∷◌}
@@ -25,7 +25,8 @@ use Rattle.exchange.specs.declared.slots.Slots.{Slots}
 use Rattle.exchange.specs.Folds.{FirstAt}
 use Rattle.exchange.specs.Slots.{with_here, slot_at, state_in, states_left, states_of, head_of}
 use Rattle.exchange.specs.Passing.{Voters}
-use Rattle.exchange.specs.Table.{place_in, sought_in, Sought, is_kept, kept_ids, Listed, RaisedBy, ids_in, ListInside, ListsInside, ListFits, ListsFit}
+use Rattle.exchange.specs.Hints.{sought_in, Sought}
+use Rattle.exchange.specs.Table.{place_in, is_kept, kept_ids, Listed, RaisedBy, ids_in, ListInside, ListsInside, ListFits, ListsFit}
 use Rattle.exchange.proofs.PlaceLaws.{place_has}
 use Rattle.exchange.proofs.TableLaws.{table_decides}
 use Rattle.exchange.proofs.RaiseLaws.{ids_read, ids_counted}

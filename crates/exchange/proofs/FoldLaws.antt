@@ -1,19 +1,19 @@
 -- A turn of each loop over the slots: the slot k is meant or not.
-use Prim.Native.Nat.{ℕ, zero, suc, ◌+◌, ◌-◌, ◌≤◌, ◌<◌}
+use Prim.Native.Nat.{ℕ, ◌+◌, ◌-◌, ◌≤◌, ◌<◌}
 use mathlib.Core.Path.{◌≡◌, refl, sym, ap, ◌∙◌}
 use mathlib.Core.Bool.{Bool, true, false}
 use mathlib.Core.List.{List, [], ◌∷◌}
 use Rattle.std.specs.Prelude.{Option, Some, None}
-use Rattle.base.specs.Tests.{◌or◌, pick}
-use Rattle.base.proofs.TestLaws.{pick_yes, pick_no, not_both}
+use Rattle.base.specs.Tests.{pick}
+use Rattle.base.proofs.TestLaws.{pick_yes, pick_no}
 use Rattle.base.proofs.Branches.{or_yes, or_no}
 use Rattle.base.specs.Lists.{any, filter}
 use Rattle.base.specs.Sets.{in_set}
 use Rattle.format.specs.Types.{State}
 use Rattle.exchange.specs.declared.slots.Slots.{Slots}
 use Rattle.exchange.specs.Slots.{state_in, states_from, states_of}
-use Rattle.exchange.specs.Folds.{folded, FoundAt, Found, FirstAt, First}
-use Rattle.exchange.proofs.SlotLaws.{states_start, states_in_lem, states_out, states_end}
+use Rattle.exchange.specs.Folds.{folded, FoundAt, Found, First}
+use Rattle.exchange.proofs.SlotLaws.{states_in_lem, states_out, states_end}
 
 module _ (v : Slots) (b : List ℕ) (k : ℕ) where
   -- The States from the slot k on, and those behind it.

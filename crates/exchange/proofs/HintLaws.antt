@@ -20,7 +20,8 @@ use Rattle.record.specs.Values.{slot, place_of, Marked}
 use Rattle.record.proofs.OnePass.{Small, slot_lt, unmarked_new, marked_set}
 use Rattle.record.proofs.Turns.{place_in_lem, place_out, ids_by_id, ids_last}
 use Rattle.replication.proofs.WellFormed.Ids.{same_id_holds}
-use Rattle.exchange.specs.Table.{place_in, sought_in, hinted, Hinted}
+use Rattle.exchange.specs.Hints.{sought_in, hinted, Hinted}
+use Rattle.exchange.specs.Table.{place_in}
 use Rattle.exchange.proofs.PlaceLaws.{sought_count}
 
 -- ---- left
@@ -116,10 +117,10 @@ has_filtered c d (x ∷ l) h = go (known (same_id d x)) (known (id_ok c x)) (has
     go (fails e) (fails y) i = sym (or_no _ _ _ e refl) ∙ i ∙ ap (has_id d) (sym (filter_no (id_ok c) x l y))
 
 pub hint_absent : (c : Context) (m p k : ℕ) (e h : List ℕ) (d : Id) → Hinted c (sought_in m e) h → p ≡ place_of c d → p < most_ids → k ≡ get_or h p 0 → k < 1
-    → m ≡ place_in d (sought_in m e)
+    → place_in d (sought_in m e) ≡ m
 unfolding Hinted
 hint_absent c m p k e h d x f g j n =
     let z = place_in_lem c d p (known (id_ok c d)) f g in
     let empty : get_or h (slot d) 0 ≡ 0 = omega (arith, j, n, ap (λ (i : ℕ). get_or h i 0) z.1) in
     let absent : has_id d (sought_in m e) ≡ false = has_filtered c d (sought_in m e) z.0 ∙ unmarked_new h d (filter (id_ok c) (sought_in m e)) x empty in
-    sym (place_none d (sought_in m e) absent ∙ sought_count m e)
+    place_none d (sought_in m e) absent ∙ sought_count m e

@@ -18,7 +18,8 @@ use Rattle.format.specs.Write.{id_bytes, ids_bytes}
 use Rattle.format.proofs.Lengths.{id_length, ids_length}
 use Rattle.format.proofs.Writing.{ids_more}
 use Rattle.record.specs.Values.{id_of}
-use Rattle.exchange.specs.Table.{place_in, sought_in, Sought, is_kept, Keeps, Listed}
+use Rattle.exchange.specs.Hints.{sought_in, Sought}
+use Rattle.exchange.specs.Table.{place_in, is_kept, Keeps, Listed}
 use Rattle.format.specs.Places.{id_size}
 use Rattle.exchange.proofs.PlaceLaws.{sought_count, place_own}
 

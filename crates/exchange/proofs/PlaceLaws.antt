@@ -1,11 +1,10 @@
 -- Where an id stands in a list: by a search, or by a hint that is right.
 use Prim.Native.Nat.{ℕ, zero, suc, ◌+◌, ◌*◌, ◌-◌, ◌≤◌, ◌<◌}
-use mathlib.Core.Path.{◌≡◌, refl, sym, ap, ◌∙◌}
+use mathlib.Core.Path.{◌≡◌, refl, sym, ap, subst, ◌∙◌}
 use mathlib.Core.Bool.{Bool, true, false}
 use mathlib.Core.List.{List, [], ◌∷◌}
 use native.Mathlib.Omega.{arith}
 use lib.ListN.{length, get_or}
-use Rattle.base.specs.Bytes.{number_at}
 use Rattle.base.specs.Tests.{pick, ◌and◌, ◌or◌, ◌≤?◌, ◌<?◌}
 use Rattle.base.proofs.TestLaws.{not_both, and_holds, le_holds, le_fails, lt_holds, pick_yes, pick_no, Known, known, holds, fails}
 use Rattle.format.specs.Types.{Id}
@@ -14,9 +13,13 @@ use Rattle.format.specs.Range.{same_id, has_id, ids_differ}
 use Rattle.format.specs.Read.{id_at, ids_at}
 use Rattle.format.proofs.IdsDiffer.{no_id, differ_at}
 use Rattle.format.proofs.Writing.{ids_number, ids_more}
-use Rattle.record.specs.Values.{id_of}
+use Rattle.record.specs.Values.{id_of, the_id}
+use Rattle.record.specs.Events.{id_in}
+use Rattle.record.specs.declared.ActionId.{ActionId}
+use Rattle.std.specs.Prelude.{Option}
 use Rattle.replication.proofs.WellFormed.Ids.{same_id_yes, same_id_holds}
-use Rattle.exchange.specs.Table.{place_in, sought_in, Sought}
+use Rattle.exchange.specs.Hints.{sought_in, Sought}
+use Rattle.exchange.specs.Table.{place_in, Stands}
 
 -- ---- the place
 
@@ -134,7 +137,12 @@ module _ (m : ℕ) (e : List ℕ) (d : Id) (k v : ℕ) (j : v ≡ k + place_in d
       let z : place_in d (ids_at (m - k) e (0 + id_size * k)) ≡ 0 = ap (λ (i : ℕ). place_in d (ids_at i e (0 + id_size * k))) a in
       omega arith
 
-pub among_read : (e : List ℕ) (at x y r : ℕ) (l : List Id) → x ≡ number_at 1 e at → y ≡ number_at 2 e (at + 1) → r ≡ place_in (id_of x y) l
-    → r ≡ place_in (id_at e at) l
+-- ---- whether it stands there at all
+
+pub hint_stands : (m : ℕ) (e : List ℕ) (k : ℕ) (d : Id) (r : Bool) → Sought m e → r ≡ (k <? m and same_id d (id_at e (id_size * k))) → r ≡ true
+    → (k ≡ place_in d (sought_in m e)) × (k < m)
+hint_stands m e k d r s f g = (hint_right m e k d r s f g, lt_holds k m (and_holds (k <? m) _ (sym f ∙ g)).0)
+
+pub among_stands : (m : ℕ) (l e : List ℕ) (at : ℕ) (id : ActionId) (r : Option ℕ) → id ≡ id_in e at → Stands (the_id id) m l r → Stands (id_at e at) m l r
 unfolding id_of id_at
-among_read e at x y r l a b h = h ∙ rw (a, b)
+among_stands m l e at id r h s = subst (λ (x : ActionId). Stands (the_id x) m l r) h s

@@ -1,12 +1,11 @@
 -- The taken primary, its group and the attempt, computed from the slots.
-use Prim.Native.Nat.{ℕ, ◌+◌}
+use Prim.Native.Nat.{ℕ}
 use mathlib.Core.Path.{◌≡◌, refl, sym, ap, ◌∙◌}
 use mathlib.Core.Bool.{Bool, true, false}
 use mathlib.Core.List.{List, [], ◌∷◌}
 use lib.Dec.{eqb}
-use Rattle.base.specs.Tests.{◌=?◌, ◌and◌, pick}
+use Rattle.base.specs.Tests.{◌=?◌, pick}
 use Rattle.base.proofs.TestLaws.{and_no, and_yes}
-use Rattle.base.proofs.Branches.{told_eq}
 use Rattle.base.specs.Lists.{filter}
 use Rattle.format.specs.Types.{State, Primary, first_primary}
 use Rattle.record.specs.Values.{primary_of, last_of, state_of}

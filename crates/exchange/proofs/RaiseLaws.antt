@@ -18,7 +18,8 @@ use Rattle.record.specs.Values.{state_of}
 use Rattle.record.specs.declared.events.StateHead.{StateHead}
 use Rattle.exchange.specs.declared.slots.Slots.{Slots}
 use Rattle.exchange.specs.Slots.{slot_at, states_left, head_of}
-use Rattle.exchange.specs.Table.{place_in, sought_in, is_kept, raised, raised_all, raised_lists, RaisedAt, RaisedBy, ids_in, ListInside, ListsInside}
+use Rattle.exchange.specs.Hints.{sought_in}
+use Rattle.exchange.specs.Table.{place_in, is_kept, raised, raised_all, raised_lists, RaisedAt, RaisedBy, ids_in, ListInside, ListsInside}
 use Rattle.exchange.proofs.PlaceLaws.{sought_count}
 use Rattle.exchange.proofs.SlotLaws.{states_in_lem, states_out, states_end}
 use Rattle.exchange.proofs.ReadLaws.{state_stands}
@@ -26,9 +27,9 @@ use Rattle.format.specs.Places.{id_size, state_head_size, state_cuts_at, standin
 
 -- ---- one id, whose place is p
 
-pub raise_out : (m r p : ℕ) (t e : List ℕ) (d : Id) → p ≡ place_in d (sought_in m e) → m ≤ p → t ≡ raised (sought_in m e) r t d
+pub raise_out : (m r : ℕ) (t e : List ℕ) (d : Id) → place_in d (sought_in m e) ≡ m → t ≡ raised (sought_in m e) r t d
 unfolding raised is_kept
-raise_out m r p t e d f h = pick_no _ _ _ _ (sym (and_no _ _ (lt_no _ _ (omega (arith, sought_count m e))))) refl
+raise_out m r t e d f = pick_no _ _ _ _ (sym (and_no _ _ (lt_no _ _ (omega (arith, f, sought_count m e))))) refl
 
 pub raise_other : (m r p : ℕ) (t e : List ℕ) (d : Id) → p ≡ place_in d (sought_in m e) → p < m → (get_or t p 0 ≡ r → ⊥) → t ≡ raised (sought_in m e) r t d
 unfolding raised is_kept

@@ -9,7 +9,6 @@ use lib.ListN.{length}
 use Rattle.base.specs.Tests.{pick}
 use Rattle.base.proofs.TestLaws.{pick_yes, pick_no}
 use Rattle.base.specs.Sets.{in_set}
-use Rattle.format.specs.Types.{State}
 use Rattle.exchange.specs.declared.slots.Slots.{Slots}
 use Rattle.exchange.specs.Slots.{Space, state_in, states_from, states_of}
 

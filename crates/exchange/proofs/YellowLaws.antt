@@ -1,13 +1,11 @@
 -- Whose yellow lists count, and whether there are any.
-use Prim.Native.Nat.{ℕ, ◌+◌, ◌<◌}
+use Prim.Native.Nat.{ℕ, ◌+◌}
 use mathlib.Core.Path.{◌≡◌, refl, sym, ap, ◌∙◌}
-use mathlib.Core.Bool.{true}
 use mathlib.Core.List.{List, [], ◌∷◌}
 use lib.Dec.{eqb}
 use Rattle.base.specs.Tests.{◌=?◌}
 use Rattle.base.proofs.Branches.{told_eq}
 use Rattle.base.specs.Lists.{filter}
-use Rattle.base.specs.Sets.{in_set}
 use Rattle.format.specs.Types.{State, Primary, Yellow}
 use Rattle.record.specs.Values.{primary_of, state_of}
 use Rattle.record.specs.declared.LastPrimary.{LastPrimary}

@@ -4,5 +4,7 @@ pub mod Passing
 pub mod States
 pub mod Plan
 pub mod Marks
+pub mod Hints
 pub mod Table
+pub mod First
 pub mod Decided

@@ -1,17 +1,15 @@
 -- The table by which the ids common to several lists are found in one pass over each: a place for each id of the first list, in its order.
-use Rattle.std.specs.Prelude.{ℕ, suc, ◌+◌, ◌*◌, ◌≤◌, ◌<◌, ◌≡◌, Bool, true, List, [], ◌∷◌, length, get_or, set, take, replicate}
+use Rattle.std.specs.Prelude.{ℕ, suc, ◌+◌, ◌*◌, ◌≤◌, ◌<◌, ◌≡◌, Bool, true, List, [], ◌∷◌, Option, Some, None, length, get_or, set, take, replicate}
 use Rattle.base.specs.Lists.{filter}
 use Rattle.base.specs.Patched.{patched}
 use Rattle.base.specs.Sets.{in_set}
 use Rattle.base.specs.Tests.{◌and◌, ◌=?◌, ◌<?◌, pick}
 use Rattle.format.specs.Limits.{most_ids}
-use Rattle.format.specs.Types.{Id, State, Context}
-use Rattle.format.specs.Range.{same_id, id_ok, ids_differ}
-use Rattle.format.specs.Read.{id_at, ids_at}
+use Rattle.format.specs.Types.{Id, State}
+use Rattle.format.specs.Range.{same_id, ids_differ}
+use Rattle.format.specs.Read.{id_at}
 use Rattle.format.specs.Write.{id_bytes, ids_bytes}
-use Rattle.record.specs.declared.Context as declared
-use Rattle.record.specs.Context.{context_of, ContextIn}
-use Rattle.record.specs.Values.{slot, Marked}
+use Rattle.exchange.specs.Hints.{sought_in}
 use Rattle.exchange.specs.declared.slots.Slots.{Slots}
 use Rattle.exchange.specs.Slots.{slot_at, state_in, states_left, if_meant}
 use Rattle.format.specs.Places.{cut_size, id_size, state_head_size}
@@ -21,28 +19,10 @@ unfoldable pub place_in : Id → List Id → ℕ
 place_in d [] = 0
 place_in d (x ∷ xs) = pick (same_id d x) 0 (suc (place_in d xs))
 
--- The list whose ids are sought in the others: m ids in the bytes e. They differ, and the table has a place for each.
-unfoldable pub sought_in : (m : ℕ) → List ℕ → List Id
-sought_in m e = ids_at m e 0
-
-pub record Sought (m : ℕ) (e : List ℕ) : Type 0 where
-  pub inside : id_size * m ≤ length e
-  pub few : m ≤ most_ids
-  pub differ : ids_differ (sought_in m e) ≡ true
-
--- The id d at the place k leaves a hint in the table h if it is in range.
-unfoldable pub hinted : Context → (k : ℕ) → Id → List ℕ → List ℕ
-hinted c k d h = pick (id_ok c d) (set h (slot d) (k + 1)) h
-
--- Each id in range of the list l has left one.
-unfoldable pub Hinted : Context → List Id → List ℕ → Type 0
-Hinted c l h = Marked h (filter (id_ok c) l)
-
--- The hints h to the places of the m ids in the bytes e, each id in range of the context c.
-pub record HintsFit (c : declared.Context) (m : ℕ) (e h : List ℕ) : Type 0 where
-  pub context : ContextIn c
-  pub sought : Sought m e
-  pub hinted : Hinted (context_of c) (sought_in m e) h
+-- Where the id d stands among the m ids in the bytes e.
+abbrev pub Stands : Id → (m : ℕ) → List ℕ → Option ℕ → Type 0
+Stands d m e None = place_in d (sought_in m e) ≡ m
+Stands d m e (Some k) = (k ≡ place_in d (sought_in m e)) × (k < m)
 
 -- The place of d tells r.
 unfoldable pub is_kept : List Id → ℕ → List ℕ → Id → Bool

@@ -8,14 +8,16 @@ ghost use Rattle.record.specs.Context.{ContextIn};
 ghost use Rattle.exchange.specs.Slots.{states_left};
 ghost use Rattle.exchange.specs.Folds.{FirstAt};
 ghost use Rattle.exchange.specs.States.{Fits, sent};
-ghost use Rattle.exchange.specs.Table.{sought_in, Sought, KeepsAt, kept_of, kept_ids, common_from, Listed, SlotsInside};
+ghost use Rattle.exchange.specs.Hints.{sought_in, Sought};
+ghost use Rattle.exchange.specs.Table.{KeepsAt, kept_of, kept_ids, common_from, Listed, SlotsInside};
 ghost use Rattle.replication.specs.Machine.Exchange.{taken_yellow};
 
+use crate::first_list::FirstList;
 use crate::states::States;
-use crate::table::{hints, raise_lists};
-use octets::numbers::{num8, num16};
+use crate::table::hints;
 use record::events::StateHead;
-use record::{ActionHead, Context, State};
+use record::parts::id_at as id_read;
+use record::{Context, State};
 use writer::parts::put_id;
 
 // Writes the id from `at` on as the id number `count` of the list.
@@ -23,50 +25,40 @@ fn put_kept(e: &[u8], at: usize, out: &mut [u8], count: usize)
     requires { (at + id_size ≤ length e.now) × (id_size * count + id_size ≤ length out.old) }
     ensures { out.new ≡ patched (id_size * count) (id_bytes (id_at e.now at)) out.old }
 {
-    put_id(
-        out,
-        State::ID * count,
-        num8(e, at),
-        num16(e, at + ActionHead::INDEX),
-    );
+    put_id(out, State::ID * count, id_read(e, at));
 }
 
-// Writes the id number `j` of the first list if its place tells `round`: how many ids there are then.
-fn keep_at(
-    first: &[u8],
-    ids: usize,
-    j: usize,
-    round: u8,
-    table: &[u8; State::MOST_IDS],
-    out: &mut [u8],
-    count: usize,
-) -> usize
-    requires { Sought ids first.now × (j < ids) × (id_size * count + id_size ≤ length out.old) }
-    ensures { KeepsAt ids round j first.now table.now count result out.old out.new }
-{
-    if table[j] != round {
-        return count;
+impl<'a> FirstList<'a> {
+    // Writes the id number `j` if its place tells `round`: how many ids there are then.
+    fn keep_at(
+        &self,
+        j: usize,
+        round: u8,
+        table: &[u8; State::MOST_IDS],
+        out: &mut [u8],
+        count: usize,
+    ) -> usize
+        requires { (j < self.now.count) × (id_size * count + id_size ≤ length out.old) }
+        ensures { KeepsAt self.now.count round j self.now.bytes.now table.now count result out.old out.new }
+    {
+        if table[j] != round {
+            return count;
+        }
+        put_kept(self.bytes, State::ID * j, out, count);
+        count + 1
     }
-    put_kept(first, State::ID * j, out, count);
-    count + 1
-}
 
-// Writes the ids of the first list whose places tell `round`: how many there are.
-pub fn keep(
-    first: &[u8],
-    ids: usize,
-    round: u8,
-    table: &[u8; State::MOST_IDS],
-    out: &mut [u8],
-) -> usize
-    requires { Sought ids first.now × (id_size * ids ≤ length out.old) }
-    ensures { Listed result out.new (kept_of ids round first.now table.now) }
-{
-    let mut kept = 0;
-    for j in 0..ids {
-        kept = keep_at(first, ids, j, round, table, out, kept);
+    // Writes the ids whose places tell `round`: how many there are.
+    fn keep(&self, round: u8, table: &[u8; State::MOST_IDS], out: &mut [u8]) -> usize
+        requires { id_size * self.now.count ≤ length out.old }
+        ensures { Listed result out.new (kept_of self.now.count round self.now.bytes.now table.now) }
+    {
+        let mut kept = 0;
+        for j in 0..self.count {
+            kept = self.keep_at(j, round, table, out, kept);
+        }
+        kept
     }
-    kept
 }
 
 // The ids of the first list that the list of every slot from `start` on has, too: how many there are.
@@ -82,9 +74,15 @@ fn common_of(
     ensures { Listed result out.new (kept_ids (sought_in ids first.now) (states_left states.now.slots states.now.bytes.now start)) }
 {
     let hints = hints(c, first, ids);
+    let list = FirstList {
+        context: c,
+        bytes: first,
+        count: ids,
+        hints: &hints,
+    };
     let mut table: [u8; State::MOST_IDS] = [0; State::MOST_IDS];
-    let round = raise_lists(c, first, ids, &hints, states, start, &mut table);
-    keep(first, ids, round, &table, out)
+    let round = list.raise_lists(states, start, &mut table);
+    list.keep(round, &table, out)
 }
 
 // The ids of the list in the slot `start` that every list behind it has, too: how many there are.

@@ -7,18 +7,20 @@ ghost use Rattle.format.specs.Places.{id_size};
 ghost use Rattle.format.specs.Range.{same_id};
 ghost use Rattle.format.specs.Read.{id_at, ids_at};
 ghost use Rattle.record.specs.Context.{context_of, ContextIn};
-ghost use Rattle.record.specs.Values.{id_of};
+ghost use Rattle.record.specs.Values.{the_id};
 ghost use Rattle.exchange.specs.Slots.{states_left};
-ghost use Rattle.exchange.specs.Table.{place_in, sought_in, Sought, hinted, Hinted, HintsFit, raised, raised_in, RaisedAt, RaisedFrom};
-ghost use Rattle.exchange.specs.Table.{ids_in, SlotInside, SlotsInside};
+ghost use Rattle.exchange.specs.Hints.{sought_in, Sought, hinted, Hinted};
+ghost use Rattle.exchange.specs.Table.{Stands, raised, raised_in, RaisedAt, RaisedFrom, ids_in, SlotInside, SlotsInside};
+ghost use Rattle.exchange.specs.First.{the_list};
 
+use crate::first_list::FirstList;
 use crate::states::States;
-use octets::numbers::{num8, num16, wider};
+use octets::numbers::wider;
 use record::events::StateHead;
 use record::lists::place_at;
-use record::parts::is_id;
+use record::parts::id_at as id_read;
 use record::sets::has;
-use record::{ActionHead, Context, State};
+use record::{ActionId, Context, State};
 
 // The id at the place k leaves a hint to it: one more than k, since 0 stands where no id has left one.
 fn leave_hint(c: Context, first: &[u8], k: usize, t: &mut [u16; State::MOST_IDS])
@@ -44,196 +46,154 @@ pub fn hints(c: Context, first: &[u8], ids: usize) -> [u16; State::MOST_IDS]
     t
 }
 
-// Where this id stands among the `ids` ids: their number where it is none of them.
-fn search(first: &[u8], ids: usize, creator: u8, index: u16) -> usize
-    requires { id_size * ids ≤ length first.now }
-    ensures { result ≡ place_in (id_of creator index) (sought_in ids first.now) }
-{
-    for k in 0..ids {
-        if is_id(first, State::ID * k, creator, index) {
-            return k;
+impl<'a> FirstList<'a> {
+    // Where this id stands in the list.
+    fn search(&self, id: ActionId) -> Option<usize>
+        ensures { Stands (the_id id) self.now.count self.now.bytes.now result }
+    {
+        for k in 0..self.count {
+            if id.is_at(self.bytes, State::ID * k) {
+                return Some(k);
+            }
+        }
+        None
+    }
+
+    // Whether this id stands at the place k.
+    fn is_there(&self, k: usize, id: ActionId) -> bool
+        ensures { result ≡ (k <? self.now.count and same_id (the_id id) (id_at self.now.bytes.now (id_size * k))) }
+    {
+        if self.count <= k {
+            return false;
+        }
+        id.is_at(self.bytes, State::ID * k)
+    }
+
+    // Where it stands, at once where the hint k is right.
+    fn search_from(&self, k: usize, id: ActionId) -> Option<usize>
+        ensures { Stands (the_id id) self.now.count self.now.bytes.now result }
+    {
+        if self.is_there(k, id) {
+            return Some(k);
+        }
+        self.search(id)
+    }
+
+    // Where the id from `at` on stands in the list, by its hint.
+    // Stays: the bytes with a place (d): record's `place_at` and `id_at` take the same two.
+    fn place_hinted(&self, e: &[u8], at: usize) -> Option<usize>
+        requires { at + id_size ≤ length e.now }
+        ensures { Stands (id_at e.now at) self.now.count self.now.bytes.now result }
+    {
+        let id = id_read(e, at);
+        let p = place_at(self.context, e, at);
+        if State::MOST_IDS <= p {
+            return self.search(id);
+        }
+        let k = wider(self.hints[p]) as usize;
+        if k < 1 {
+            return None;
+        }
+        self.search_from(k - 1, id)
+    }
+
+    // The same, at once where it stands at the place `j`.
+    fn place_among(&self, e: &[u8], at: usize, j: usize) -> Option<usize>
+        requires { at + id_size ≤ length e.now }
+        ensures { Stands (id_at e.now at) self.now.count self.now.bytes.now result }
+    {
+        if self.is_there(j, id_read(e, at)) {
+            return Some(j);
+        }
+        self.place_hinted(e, at)
+    }
+
+    // The id number `j` of the list after `round` others.
+    fn raise_at(&self, e: &[u8], at: usize, j: usize, round: u8, table: &mut [u8; State::MOST_IDS])
+        requires { (at + id_size ≤ length e.now) × (round < most_servers_limit) }
+        ensures { table.new ≡ raised (the_list self.now) round table.old (id_at e.now at) }
+    {
+        match self.place_among(e, at, j) {
+            Some(p) => {
+                if table[p] == round {
+                    table[p] = round + 1;
+                }
+            }
+            None => {}
         }
     }
-    ids
-}
 
-// Whether this id stands at the place k.
-fn is_there(first: &[u8], ids: usize, k: usize, creator: u8, index: u16) -> bool
-    requires { id_size * ids ≤ length first.now }
-    ensures { result ≡ (k <? ids and same_id (id_of creator index) (id_at first.now (id_size * k))) }
-{
-    if ids <= k {
-        return false;
+    // The `count` ids from `at` on.
+    fn raise_list(
+        &self,
+        e: &[u8],
+        at: usize,
+        count: usize,
+        round: u8,
+        table: &mut [u8; State::MOST_IDS],
+    )
+        requires { (at + id_size * count ≤ length e.now) × (round < most_servers_limit) }
+        ensures { table.new ≡ raised_in self.now.count self.now.bytes.now round table.old (ids_at count e.now at) }
+    {
+        for j in 0..count {
+            self.raise_at(e, at + State::ID * j, j, round, table);
+        }
     }
-    is_id(first, State::ID * k, creator, index)
-}
 
-// Where it stands, at once where the hint k is right.
-fn search_from(first: &[u8], ids: usize, k: usize, creator: u8, index: u16) -> usize
-    requires { Sought ids first.now }
-    ensures { result ≡ place_in (id_of creator index) (sought_in ids first.now) }
-{
-    if is_there(first, ids, k, creator, index) {
-        return k;
+    // The yellow list in the slot k.
+    fn raise_slot(
+        &self,
+        states: &States<'_>,
+        k: usize,
+        round: u8,
+        table: &mut [u8; State::MOST_IDS],
+    )
+        requires { SlotInside states.now.slots states.now.bytes.now k × (round < most_servers_limit) }
+        ensures { table.new ≡ raised_in self.now.count self.now.bytes.now round table.old (ids_in states.now.slots states.now.bytes.now k) }
+    {
+        let x = states.head(k);
+        let at = states.place(k);
+        self.raise_list(
+            &states.bytes[at..],
+            StateHead::SIZE + State::CUT * states.slots.servers,
+            x.yellow_count as usize,
+            round,
+            table,
+        );
     }
-    search(first, ids, creator, index)
-}
 
-// Where the id from `at` on stands among them, by its hint.
-fn place_hinted(
-    c: Context,
-    first: &[u8],
-    ids: usize,
-    hints: &[u16; State::MOST_IDS],
-    e: &[u8],
-    at: usize,
-) -> usize
-    requires { HintsFit c ids first.now hints.now × (at + id_size ≤ length e.now) }
-    ensures { result ≡ place_in (id_at e.now at) (sought_in ids first.now) }
-{
-    let creator = num8(e, at);
-    let index = num16(e, at + ActionHead::INDEX);
-    let p = place_at(c, e, at);
-    if State::MOST_IDS <= p {
-        return search(first, ids, creator, index);
+    // The list in the slot k, if it is meant; how many lists there were then.
+    fn raise_turn(
+        &self,
+        states: &States<'_>,
+        k: usize,
+        round: u8,
+        table: &mut [u8; State::MOST_IDS],
+    ) -> u8
+        requires { SlotsInside states.now.slots states.now.bytes.now k × (k < states.now.slots.servers) × (round < most_servers_limit) }
+        ensures { RaisedAt (the_list self.now) states.now.slots states.now.bytes.now k round result table.old table.new }
+    {
+        if !has(states.slots.here, k) {
+            return round;
+        }
+        self.raise_slot(states, k, round, table);
+        round + 1
     }
-    let k = wider(hints[p]) as usize;
-    if k < 1 {
-        return ids;
-    }
-    search_from(first, ids, k - 1, creator, index)
-}
 
-// The same, at once where it stands at the place `j`.
-fn place_among(
-    c: Context,
-    first: &[u8],
-    ids: usize,
-    hints: &[u16; State::MOST_IDS],
-    e: &[u8],
-    at: usize,
-    j: usize,
-) -> usize
-    requires { HintsFit c ids first.now hints.now × (at + id_size ≤ length e.now) }
-    ensures { result ≡ place_in (id_at e.now at) (sought_in ids first.now) }
-{
-    if is_there(first, ids, j, num8(e, at), num16(e, at + ActionHead::INDEX)) {
-        return j;
+    // The lists in the slots from `start` on, of the senders that are meant: how many there are.
+    pub fn raise_lists(
+        &self,
+        states: &States<'_>,
+        start: usize,
+        table: &mut [u8; State::MOST_IDS],
+    ) -> u8
+        requires { SlotsInside states.now.slots states.now.bytes.now start }
+        ensures { RaisedFrom self.now.count self.now.bytes.now (states_left states.now.slots states.now.bytes.now start) result table.old table.new }
+    {
+        let mut round = 0;
+        for k in start..states.slots.servers {
+            round = self.raise_turn(states, k, round, table);
+        }
+        round
     }
-    place_hinted(c, first, ids, hints, e, at)
-}
-
-// The id number `j` of the list after `round` others.
-fn raise_at(
-    c: Context,
-    first: &[u8],
-    ids: usize,
-    hints: &[u16; State::MOST_IDS],
-    e: &[u8],
-    at: usize,
-    j: usize,
-    round: u8,
-    table: &mut [u8; State::MOST_IDS],
-)
-    requires { HintsFit c ids first.now hints.now × (at + id_size ≤ length e.now) × (round < most_servers_limit) }
-    ensures { table.new ≡ raised (sought_in ids first.now) round table.old (id_at e.now at) }
-{
-    let p = place_among(c, first, ids, hints, e, at, j);
-    if ids <= p {
-        return;
-    }
-    if table[p] != round {
-        return;
-    }
-    table[p] = round + 1;
-}
-
-// The `count` ids from `at` on.
-fn raise_list(
-    c: Context,
-    first: &[u8],
-    ids: usize,
-    hints: &[u16; State::MOST_IDS],
-    e: &[u8],
-    at: usize,
-    count: usize,
-    round: u8,
-    table: &mut [u8; State::MOST_IDS],
-)
-    requires { HintsFit c ids first.now hints.now × (at + id_size * count ≤ length e.now) × (round < most_servers_limit) }
-    ensures { table.new ≡ raised_in ids first.now round table.old (ids_at count e.now at) }
-{
-    for j in 0..count {
-        raise_at(c, first, ids, hints, e, at + State::ID * j, j, round, table);
-    }
-}
-
-// The yellow list in the slot k.
-fn raise_slot(
-    c: Context,
-    first: &[u8],
-    ids: usize,
-    hints: &[u16; State::MOST_IDS],
-    states: &States<'_>,
-    k: usize,
-    round: u8,
-    table: &mut [u8; State::MOST_IDS],
-)
-    requires { HintsFit c ids first.now hints.now × SlotInside states.now.slots states.now.bytes.now k × (round < most_servers_limit) }
-    ensures { table.new ≡ raised_in ids first.now round table.old (ids_in states.now.slots states.now.bytes.now k) }
-{
-    let x = states.head(k);
-    let at = states.place(k);
-    raise_list(
-        c,
-        first,
-        ids,
-        hints,
-        &states.bytes[at..],
-        StateHead::SIZE + State::CUT * states.slots.servers,
-        x.yellow_count as usize,
-        round,
-        table,
-    );
-}
-
-// The list in the slot k, if it is meant; how many lists there were then.
-fn raise_turn(
-    c: Context,
-    first: &[u8],
-    ids: usize,
-    hints: &[u16; State::MOST_IDS],
-    states: &States<'_>,
-    k: usize,
-    round: u8,
-    table: &mut [u8; State::MOST_IDS],
-) -> u8
-    requires { HintsFit c ids first.now hints.now × SlotsInside states.now.slots states.now.bytes.now k × (k < states.now.slots.servers) × (round < most_servers_limit) }
-    ensures { RaisedAt (sought_in ids first.now) states.now.slots states.now.bytes.now k round result table.old table.new }
-{
-    if !has(states.slots.here, k) {
-        return round;
-    }
-    raise_slot(c, first, ids, hints, states, k, round, table);
-    round + 1
-}
-
-// The lists in the slots from `start` on, of the senders that are meant: how many there are.
-pub fn raise_lists(
-    c: Context,
-    first: &[u8],
-    ids: usize,
-    hints: &[u16; State::MOST_IDS],
-    states: &States<'_>,
-    start: usize,
-    table: &mut [u8; State::MOST_IDS],
-) -> u8
-    requires { HintsFit c ids first.now hints.now × SlotsInside states.now.slots states.now.bytes.now start }
-    ensures { RaisedFrom ids first.now (states_left states.now.slots states.now.bytes.now start) result table.old table.new }
-{
-    let mut round = 0;
-    for k in start..states.slots.servers {
-        round = raise_turn(c, first, ids, hints, states, k, round, table);
-    }
-    round
 }

@@ -32,7 +32,7 @@ use Rattle.queue.proofs.RedLaws.{cut_read}
 use Rattle.image.specs.Holding.{HoldsSome}
 use Rattle.image.proofs.InPlace.{such_decoded}
 use Rattle.install.specs.Table.{log_in, yellows_in, ids_of, Indexed, Turned, id_in, NextAt, NextFrom, TurnedAt}
-use Rattle.std.specs.Prelude.{None}
+use Rattle.std.specs.Prelude.{Some, None}
 use Rattle.install.proofs.SwapFits.{swaps_kept}
 use Rattle.install.proofs.NextLaws.{NoneOver, next_over, none_next, none_before, swaps_passed}
 use Rattle.install.proofs.TableLaws.{green_read}
@@ -148,11 +148,11 @@ module _ (t b : List ℕ) (x : Indexed t b) (c i : ℕ) where
         let turned = turned_append before (id_in b k ∷ []) b t b t₁ b₁ x.holds skipped turn in
         turned_as (before ++ (id_in b k ∷ [])) (map (id_of c) (above i y)) b t₁ b₁ ids turned
 
-pub up_to_cut : (t b : List ℕ) → Indexed t b → (k cut y : ℕ) → y ≡ (id_in b k).index → cut < y → TurnedAt k cut cut b t b
-up_to_cut t b x k cut y e m c i next l = (l, omega arith, turned_short t b x c i k y next e cut l m)
+pub up_to_cut : (t b : List ℕ) → Indexed t b → (k cut y : ℕ) → y ≡ (id_in b k).index → cut < y → TurnedAt k cut None b t b
+up_to_cut t b x k cut y e m c i next l = turned_short t b x c i k y next e cut l m
 
 pub up_to_next : (t b t₁ b₁ : List ℕ) → Indexed t b → (k cut y : ℕ) → y ≡ (id_in b k).index → y ≤ cut → Turned (id_in b k ∷ []) b t₁ b₁
-    → TurnedAt k cut y b t₁ b₁
+    → TurnedAt k cut (Some y) b t₁ b₁
 up_to_next t b t₁ b₁ x k cut y e m turn c i next l = (over t b x c i k y next e, m, turned_next t b x c i k y next e t₁ b₁ turn)
 
 -- ---- one creator
@@ -186,6 +186,12 @@ module _ (b₀ : List ℕ) (s₀ : HoldsSome b₀) (c : ℕ) where
   creator_end t b k i h e l m turn =
       let same : i ≡ cut (log_in b₀) c = omega (arith, creator_cut h) in
       turned_as (map (id_of c) (above 0 i)) (map (id_of c) (above 0 (cut (log_in b₀) c))) b₀ t b (ap (λ (z : ℕ). map (id_of c) (above 0 z)) same) turn
+
+  -- None is left.
+  pub creator_done : (t b t₁ b₁ : List ℕ) (k i : ℕ) → c < servers_in b₀ → k ≡ number_at 2 b₀ (header_size + 2 * c) → i < k
+      → Turned (map (id_of c) (above 0 i)) b₀ t b → Turned (map (id_of c) (above i k)) b t₁ b₁ → Turned (ids_of c b₀) b₀ t₁ b₁
+  creator_done t b t₁ b₁ k i h e l before turn =
+      creator_end t₁ b₁ k k h e (omega arith) (omega arith) (creator_again t b t₁ b₁ i k before l turn)
 
 -- ---- all creators
 

@@ -28,7 +28,8 @@ use Rattle.image.specs.Image.{image}
 use Rattle.image.specs.Decode.{decoded}
 use Rattle.image.specs.Holding.{Holds, HoldsSome}
 use Rattle.image.proofs.InPlace.{such_decoded}
-use Rattle.queue.specs.Queue.{position}
+use Rattle.queue.specs.Queue.{position, first_with}
+use Rattle.queue.proofs.FindLaws.{some_found, none_found}
 use Rattle.image.specs.Decode.{actions_at}
 use Rattle.queue.proofs.Positions.{position_found, position_most, actions_drop}
 use Rattle.queue.proofs.ReadLaws.{find_at, queue_read}
@@ -150,28 +151,29 @@ entry_absent first t b d p k x e f h =
     place_none first b x.holds x.low d (omega (arith, none))
 
 -- The search from `first` on.
-searched_at : (first : ℕ) (b : List ℕ) (d : Id) (a n p : ℕ) (s : HoldsSome b) (low : first ≤ queue_count b) → a ≡ place the_queue b → n ≡ queue_count b
-    → p ≡ position d (actions_at (n - first) b (a + slot_size * first)) → first + p ≡ sought first b s low d
-unfolding log_in
-searched_at first b d a n p s low e f g =
-    let same : actions_at (n - first) b (a + slot_size * first) ≡ drop first (queue (shown_log (decoded b))) =
-    (λ i. actions_at (f i - first) b (e i + slot_size * first)) ∙ sym (actions_drop first (queue_count b) b (place the_queue b) low)
-    ∙ ap (drop first) (queue_read (decoded b) b (such_decoded _ b s)) in
-    ap (λ (m : ℕ). first + m) (g ∙ ap (position d) same)
+module _ (first : ℕ) (b : List ℕ) (d : Id) (a n : ℕ) (s : HoldsSome b) (low : first ≤ queue_count b) (e : a ≡ place the_queue b) (f : n ≡ queue_count b) where
+  abbrev searched : List Action
+  searched = actions_at (n - first) b (a + slot_size * first)
 
-pub place_searched : (first : ℕ) (b : List ℕ) (d : Id) (a n p : ℕ) → HoldsSome b → first ≤ queue_count b → a ≡ place the_queue b → n ≡ queue_count b
-    → p ≡ position d (actions_at (n - first) b (a + slot_size * first)) → first + p < n → Some (first + p) ≡ place_from first d b
-place_searched first b d a n p s low e f g h = place_there first b s low d (first + p) n (searched_at first b d a n p s low e f g) f h
+  searched_rest : searched ≡ drop first (queue (log_in b))
+  unfolding log_in
+  searched_rest =
+      (λ i. actions_at (f i - first) b (e i + slot_size * first)) ∙ sym (actions_drop first (queue_count b) b (place the_queue b) low)
+      ∙ ap (drop first) (queue_read (decoded b) b (such_decoded _ b s))
 
-pub place_absent : (first : ℕ) (b : List ℕ) (d : Id) (a n p : ℕ) → HoldsSome b → first ≤ queue_count b → a ≡ place the_queue b → n ≡ queue_count b
-    → p ≡ position d (actions_at (n - first) b (a + slot_size * first)) → n ≤ first + p → None ≡ place_from first d b
-place_absent first b d a n p s low e f g h =
-    place_none first b s low d (omega (arith, searched_at first b d a n p s low e f g))
+  pub place_searched : (p : ℕ) → Some p ≡ first_with d searched → Some (first + p) ≡ place_from first d b
+  place_searched p g =
+      let k = some_found d searched p g in
+      place_there first b s low d (first + p) n (ap (λ (m : ℕ). first + m) (k.0 ∙ ap (position d) searched_rest)) f
+      (omega (arith, k.1, actions_count (n - first) b (a + slot_size * first)))
 
-pub searched_fits : (first : ℕ) (b : List ℕ) (d : Id) (a n p : ℕ) → CountsIn b → first ≤ queue_count b → n ≡ queue_count b
-    → p ≡ position d (actions_at (n - first) b (a + slot_size * first)) → length b < 2 ^ 64 → Fits w64 (first + p)
-searched_fits first b d a n p c low f g l =
-    record { fits = omega (arith, c.queue_end, position_most d (actions_at (n - first) b (a + slot_size * first)), actions_count (n - first) b (a + slot_size * first)) }
+  pub place_absent : None ≡ first_with d searched → None ≡ place_from first d b
+  place_absent g =
+      place_none first b s low d (omega (arith, none_found d searched g, actions_count (n - first) b (a + slot_size * first), ap (position d) searched_rest))
+
+  pub searched_fits : (p : ℕ) → CountsIn b → Some p ≡ first_with d searched → length b < 2 ^ 64 → Fits w64 (first + p)
+  searched_fits p c g l =
+      record { fits = omega (arith, c.queue_end, (some_found d searched p g).1, actions_count (n - first) b (a + slot_size * first)) }
 
 -- ---- turned green
 

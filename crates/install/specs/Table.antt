@@ -96,10 +96,11 @@ pub record Turned (ds : List Id) (b u c : List ℕ) : Type 0 where
   pub written : c ≡ image (with_log (green_swaps ds (decoded b).log) (decoded b)) b
   pub indexed : Indexed u c
 
--- The creator c's red actions with the indexes over i up to r turned green, and r is not over `cut`.
-abbrev pub TurnedTo : (c i cut r : ℕ) → (b u v : List ℕ) → Type 0
-TurnedTo c i cut r b u v = (i < r) × (r ≤ cut) × Turned (map (id_of c) (above i r)) b u v
+-- The creator c's red actions with the indexes over i up to r turned green, and r is not over `cut`; where r is none, it has none of them up to `cut`.
+abbrev pub TurnedTo : (c i cut : ℕ) → (r : Option ℕ) → (b u v : List ℕ) → Type 0
+TurnedTo c i cut r b u v =
+    MatchOption r (Turned (map (id_of c) (above i cut)) b u v) (λ y. (i < y) × (y ≤ cut) × Turned (map (id_of c) (above i y)) b u v)
 
 -- The same of each creator whose next red action over i stands at the place k.
-abbrev pub TurnedAt : (k cut r : ℕ) → (b u v : List ℕ) → Type 0
+abbrev pub TurnedAt : (k cut : ℕ) → (r : Option ℕ) → (b u v : List ℕ) → Type 0
 TurnedAt k cut r b u v = (c i : ℕ) → NextAt (queue_count b) (green_count b) c i k b → i < cut → TurnedTo c i cut r b u v

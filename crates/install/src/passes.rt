@@ -8,7 +8,7 @@ ghost use Rattle.image.specs.Counts.{queue_count, green_count};
 ghost use Rattle.image.specs.Decode.{servers_in};
 
 use crate::table::{index_at, reds, turn_at_place, turn_green};
-use image::places::{THE_YELLOW, place_of};
+use image::places::{Section, place_of};
 use octets::numbers::{num8, num16};
 use record::State;
 use record::parts::id_at;
@@ -27,40 +27,45 @@ pub fn turn_yellow(state: &mut [u8], places: &mut [u16; State::MOST_IDS])
     requires { Indexed places.old state.old }
     ensures { Turned (yellows_in state.old) state.old places.new state.new }
 {
-    let at = place_of(state, THE_YELLOW);
+    let at = place_of(state, Section::Yellow);
     let count = num16(state, State::AT_YELLOW_COUNT) as usize;
     for j in 0..count {
         turn_at(state, places, at + State::ID * j);
     }
 }
 
-// The red action at the place k turns green if its index is not over the cut: its index, or the cut.
-fn turn_up_to(state: &mut [u8], places: &mut [u16; State::MOST_IDS], k: usize, cut: u16) -> u16
+// The red action at the place k turns green if its index is not over the cut: its index then.
+fn turn_up_to(
+    state: &mut [u8],
+    places: &mut [u16; State::MOST_IDS],
+    k: usize,
+    cut: u16,
+) -> Option<u16>
     requires { Indexed places.old state.old × (green_count state.old ≤ k) × (k < queue_count state.old) }
     ensures { TurnedAt k cut result state.old places.new state.new }
 {
     let index = index_at(state, k);
     if cut < index {
-        return cut;
+        return None;
     }
     turn_at_place(state, places, k);
-    index
+    Some(index)
 }
 
-// The creator's next red action over i up to the cut turns green: its index, or the cut where there is none.
+// The creator's next red action over i up to the cut turns green, if there is one: its index then.
 fn turn_next(
     state: &mut [u8],
     places: &mut [u16; State::MOST_IDS],
     creator: u8,
     i: u16,
     cut: u16,
-) -> u16
+) -> Option<u16>
     requires { Indexed places.old state.old × (creator < most_servers_limit) × (i < cut) }
     ensures { TurnedTo creator i cut result state.old places.new state.new }
 {
     match reds(state, places).next(creator, i) {
         Some(k) => turn_up_to(state, places, k, cut),
-        None => cut,
+        None => None,
     }
 }
 
@@ -72,7 +77,10 @@ fn turn_creator(state: &mut [u8], places: &mut [u16; State::MOST_IDS], creator: 
     let cut = num16(state, State::SIZE + State::CUT * creator as usize);
     let mut i: u16 = 0;
     while i < cut {
-        i = turn_next(state, places, creator, i, cut);
+        let Some(index) = turn_next(state, places, creator, i, cut) else {
+            return;
+        };
+        i = index;
     }
 }
 

@@ -4,7 +4,7 @@ ghost use Rattle.image.specs.Layout.{slot_size};
 ghost use Rattle.install.specs.Swaps.{exchanged, green_at};
 ghost use Rattle.image.specs.Counts.{queue_count, green_count, CountsIn};
 
-use image::places::{THE_QUEUE, place_of};
+use image::places::{Section, place_of};
 use octets::blocks::copy;
 use octets::numbers::{num32, put32};
 use queue::slots::slot_at;
@@ -27,7 +27,7 @@ pub fn green_at(state: &mut [u8], k: usize)
     ensures { state.new ≡ green_at k state.old }
 {
     let green = num32(state, State::AT_GREEN_COUNT);
-    let at = place_of(state, THE_QUEUE);
+    let at = place_of(state, Section::Queue);
     exchange(
         state,
         at + State::SLOT * green as usize,

@@ -9,19 +9,18 @@ ghost use Rattle.install.specs.Table.{place_from, IndexedFrom, Indexed, Turned, 
 ghost use Rattle.image.specs.Counts.{queue_count, green_count, CountsIn};
 
 use crate::swapping::green_at;
-use image::places::{THE_QUEUE, place_of};
+use image::places::{Section, place_of};
 use octets::numbers::num32;
 use queue::finding::find;
 use record::parts::id_at;
 use record::{ActionId, State};
 
-// The place of an id in the table.
+// The place of an id in the table, which is one of the table's.
 fn entry(id: ActionId) -> usize
     requires { id.creator < most_servers_limit }
     ensures { (result ≡ slot (the_id id)) × (result < most_ids) }
 {
-    id.creator as usize * State::MOST_QUOTA as usize
-        + id.index as usize % State::MOST_QUOTA as usize
+    id.slot()
 }
 
 // The id of the action at the place k of the queue.
@@ -29,7 +28,7 @@ fn queue_id(state: &[u8], k: usize) -> ActionId
     requires { CountsIn state.now × (k < queue_count state.now) }
     ensures { the_id result ≡ id_in state.now k }
 {
-    id_at(state, place_of(state, THE_QUEUE) + State::SLOT * k)
+    id_at(state, place_of(state, Section::Queue) + State::SLOT * k)
 }
 
 // Its index.
@@ -49,6 +48,7 @@ fn entry_at(state: &[u8], k: usize) -> usize
 }
 
 // A hint to the place k of the queue, for the id whose place in the table is p: one more than k.
+// Stays: (a) 0 is no hint, since a table of Option<u16> is twice as long, and memory is fixed.
 fn hint(places: &mut [u16; State::MOST_IDS], p: usize, k: usize)
     requires { (p < most_ids) × (k < most_ids) }
     ensures { places.new ≡ set places.old p (k + 1) }
@@ -70,6 +70,7 @@ pub fn table(state: &[u8]) -> [u16; State::MOST_IDS]
 }
 
 // Actions of a state's queue, from the place `first` on, looked up by the table.
+// Stays: (c) `IndexedFrom` is a clause and no ghost field, which has to be a proposition: nothing proves `IsProp` of it, since it holds a state.
 #[derive(Clone, Copy)]
 pub struct Lookup<'a> {
     pub state: &'a [u8],
@@ -93,7 +94,7 @@ impl Lookup<'_> {
     {
         id.is_at(
             self.state,
-            place_of(self.state, THE_QUEUE) + State::SLOT * k,
+            place_of(self.state, Section::Queue) + State::SLOT * k,
         )
     }
 
@@ -102,10 +103,9 @@ impl Lookup<'_> {
         requires { IndexedFrom self.now.first self.now.places.now self.now.state.now }
         ensures { result ≡ place_from self.now.first (the_id id) self.now.state.now }
     {
-        let at = place_of(self.state, THE_QUEUE) + State::SLOT * self.first;
-        let count = self.count();
-        let k = self.first + find(self.state, at, count - self.first, id.creator, id.index);
-        if k < count { Some(k) } else { None }
+        let at = place_of(self.state, Section::Queue) + State::SLOT * self.first;
+        let k = find(self.state, at, self.count() - self.first, id)?;
+        Some(self.first + k)
     }
 
     // The same, at once where the hint k names the action.
@@ -210,6 +210,8 @@ pub fn reds<'a>(state: &'a [u8], places: &'a [u16; State::MOST_IDS]) -> Lookup<'
 }
 
 // The red action at the place k of the queue turns green: the lowest red one takes its place.
+// Stays: (d) state and table are lent side by side here and in passes.rt: a struct that holds the `&mut` would have each contract say that it still
+// holds the same buffer.
 pub fn turn_at_place(state: &mut [u8], places: &mut [u16; State::MOST_IDS], k: usize)
     requires { Indexed places.old state.old × (green_count state.old ≤ k) × (k < queue_count state.old) }
     ensures { Turned (id_in state.old k ∷ []) state.old places.new state.new }

@@ -1,24 +1,22 @@
 -- The parts of the plan: what a buffer says of its queue, and whose part is what.
 use Prim.Native.Nat.{ℕ, zero, suc, ◌+◌, ◌*◌, ◌≤◌, ◌<◌, max, min}
 use mathlib.Core.Path.{◌≡◌, refl, sym, ap, ap₂, subst, ◌∙◌}
-use mathlib.Core.Bool.{true, false, not}
+use mathlib.Core.Bool.{Bool, true, false}
 use mathlib.Core.List.{List, [], ◌∷◌, ◌++◌, append-nil}
 use mathlib.Core.Option.{none}
 use native.Mathlib.Omega.{arith}
 use native.Mathlib.Decide.{dec_lt}
 use lib.ListN.{length, length-append}
-use borrow.Author.Tests.{not-true, not-false}
 use Rattle.base.specs.Bytes.{number_at, over}
 use Rattle.base.proofs.Comparable.{gather_all_append}
 use Rattle.base.specs.Lists.{gather, gather_all, above, below}
 use Rattle.base.specs.Tests.{pick}
-use Rattle.base.proofs.TestLaws.{pick_yes, pick_no}
 use Rattle.format.specs.Limits.{most_number_limit}
 use Rattle.format.specs.Types.{Record}
 use Rattle.record.specs.Values.{id_of}
 use Rattle.replication.specs.Machine.Types.{Server}
 use Rattle.replication.specs.Machine.Colours.{places_of}
-use Rattle.replication.specs.Machine.Plan.{missing, cut_in, green_in, resent, resend_green, resend_red, own_part}
+use Rattle.replication.specs.Machine.Plan.{missing, highest, cut_in, green_in, resent, resend_green, resend_red, own_part}
 use Rattle.replication.specs.Machine.Step.{collected}
 use Rattle.replication.specs.Machine.WellFormed.{queue}
 use Rattle.replication.proofs.Step.PartHeld.{part_held}
@@ -33,8 +31,9 @@ use Rattle.image.proofs.InPlace.{holds_decoded, holds_some}
 use Rattle.image.proofs.InRange.{in_range}
 use Rattle.queue.proofs.ReadLaws.{holds_queue, queue_read}
 use Rattle.outgoing.specs.Lent.{LentSuch}
-use Rattle.exchange.specs.Decided.{part_of}
-use Rattle.exchange.specs.declared.decided.Part.{Part}
+use Rattle.exchange.specs.Plan.{part_of}
+use Rattle.exchange.specs.declared.plan.Part.{Part}
+use Rattle.std.specs.Prelude.{Option as Maybe, Some, None}
 use Rattle.outgoing.specs.Resending.{queue_in, at_position, as_red, greens_of, reds_of, Sends, Stated, PositionsIn, green_part}
 use Rattle.outgoing.specs.Resending.{red_part, red_parts, whole_part}
 use Rattle.outgoing.proofs.GatherLaws.{without_first, without_last}
@@ -88,28 +87,50 @@ module _ (b : List ℕ) (s : Stated b) (me low high : ℕ) where
   positions_held =
       sym (without_first (at_position me b) low first high (omega arith) white_none ∙ without_last (at_position me b) first last high (omega arith) past_none)
 
-module _ (b : List ℕ) (x : Part) (s : Stated b) (e : (t : Server) → Holds t b → x ≡ part_of green_in t.me (collected t)) where
+-- What is sent of a part, if there is one.
+sent_of : (Part → List Record) → Maybe Part → List Record
+sent_of f None = []
+sent_of f (Some p) = f p
+
+sent_by : (f : Part → List Record) (t : Bool) (p : Part) → sent_of f (pick t (Some p) None) ≡ pick t (f p) []
+unfolding pick
+sent_by f true p = refl
+sent_by f false p = refl
+
+high_of : Maybe Part → ℕ
+high_of None = 0
+high_of (Some p) = p.high
+
+there : Maybe Part → ℕ
+there None = 0
+there (Some p) = 1
+
+high_is : (t : Bool) (p q : Part) → pick t (Some p) None ≡ Some q → q.high ≡ p.high
+unfolding pick
+high_is true p q e = sym (ap high_of e)
+high_is false p q e = absurd (omega (arith, ap there e))
+
+module _ (b : List ℕ) (x : Maybe Part) (s : Stated b) (e : (t : Server) → Holds t b → x ≡ part_of green_in t.me (collected t)) where
   greens : x ≡ part_of green_in (decoded b).me (collected (decoded b))
   greens = e (decoded b) s.holds
 
-  green_is : (me : ℕ) → me ≡ number_at 1 b at_me → pick x.mine (greens_of me x.low x.high b) [] ≡ green_part b
+  green_is : (me : ℕ) → me ≡ number_at 1 b at_me → sent_of (λ p. greens_of me p.low p.high b) x ≡ green_part b
   unfolding green_part resend_green missing part_of at_position decoded decoded_as
   green_is me m =
-      ap₂ {A = ℕ} {B = Part} {C = List Record} (λ k y. pick y.mine (greens_of k y.low y.high b) []) m greens
+      ap₂ {A = ℕ} {B = Maybe Part} {C = List Record} (λ k y. sent_of (λ p. greens_of k p.low p.high b) y) m greens ∙ sent_by _ _ _
 
-  pub green_none : (me : ℕ) (o : List ℕ) → me ≡ number_at 1 b at_me → not x.mine ≡ true → Sends (length (green_part b)) (green_part b) o o 0
+  pub green_none : (me : ℕ) (o : List ℕ) → me ≡ number_at 1 b at_me → x ≡ None → Sends (length (green_part b)) (green_part b) o o 0
   green_none me o m t =
-      none_sent_at (green_part b)
-      (sym (pick_no x.mine [] (greens_of me x.low x.high b) [] (not-true x.mine t) refl ∙ green_is me m)) o
+      none_sent_at (green_part b) (sym (green_is me m) ∙ ap (sent_of (λ p. greens_of me p.low p.high b)) t) o
 
-  module _ (me white green l h : ℕ) (m : me ≡ number_at 1 b at_me) (t : not x.mine ≡ false) (w : white ≡ white_in b) (n : green ≡ length (greens_in b))
-      (f : l ≡ max x.low white) (g : h ≡ min x.high green) where
+  module _ (me white green l h : ℕ) (p : Part) (m : me ≡ number_at 1 b at_me) (t : x ≡ Some p) (w : white ≡ white_in b) (n : green ≡ length (greens_in b))
+      (f : l ≡ max p.low white) (g : h ≡ min p.high green) where
     green_whole : greens_of me l h b ≡ green_part b
     green_whole =
         (λ i. greens_of me (f i) (g i) b)
-        ∙ (λ i. greens_of me (max x.low (w i)) (min x.high (n i)) b)
-        ∙ positions_held b s me x.low x.high
-        ∙ pick_yes x.mine _ (greens_of me x.low x.high b) [] (not-false x.mine t) refl
+        ∙ (λ i. greens_of me (max p.low (w i)) (min p.high (n i)) b)
+        ∙ positions_held b s me p.low p.high
+        ∙ sym (ap (sent_of (λ p. greens_of me p.low p.high b)) t)
         ∙ green_is me m
 
     pub green_room : (o : List ℕ) → most_retransmission * length (green_part b) ≤ length o → most_retransmission * length (greens_of me l h b) ≤ length o
@@ -125,46 +146,43 @@ pub stated_creator : (b : List ℕ) (c : ℕ) → Stated b → c < servers_in b 
 unfolding decoded decoded_as servers_in quota_in
 stated_creator b c s h = record { state = decoded b; holds = s.holds; fact = h }
 
-module _ (b : List ℕ) (c : ℕ) (x : Part) (e : (t : Server) → Holds t b → x ≡ part_of (cut_in c) t.me (collected t)) (s : Stated b) where
+module _ (b : List ℕ) (c : ℕ) (x : Maybe Part) (e : (t : Server) → Holds t b → x ≡ part_of (cut_in c) t.me (collected t)) (s : Stated b) where
   reds : x ≡ part_of (cut_in c) (decoded b).me (collected (decoded b))
   reds = e (decoded b) s.holds
 
   facts : Body (decoded b).white (decoded b)
   facts = body (decoded b) (well_formed_facts (decoded b) s.holds.formed)
 
-  pub red_high : x.high ≤ most_number_limit
+  pub red_high : (p : Part) → x ≡ Some p → p.high ≤ most_number_limit
   unfolding part_of
-  red_high =
-      omega (
-        arith,
-        ap (λ (y : Part). y.high) reds,
-        cut_bound (decoded b).servers (decoded b).quota c (collected (decoded b)) (collected_fit_lem (decoded b) facts),
-      )
+  red_high p t =
+      let same : p.high ≡ highest (cut_in c) (collected (decoded b)) = high_is _ _ p (sym reds ∙ t) in
+      omega (arith, same, cut_bound (decoded b).servers (decoded b).quota c (collected (decoded b)) (collected_fit_lem (decoded b) facts))
 
   held : queue (shown_log (decoded b)) ≡ queue_in b
   unfolding queue_in
   held = sym (queue_read (decoded b) b s.holds)
 
-  red_is : (me : ℕ) → me ≡ number_at 1 b at_me → pick x.mine (reds_of me c x.low x.high b) [] ≡ red_part b c
+  red_is : (me : ℕ) → me ≡ number_at 1 b at_me → sent_of (λ p. reds_of me c p.low p.high b) x ≡ red_part b c
   unfolding red_part resend_red places_of missing part_of as_red id_of queue white_in decoded decoded_as
   red_is me m =
-      (λ i. pick (reds i).mine (gather (as_red (m i) (sym held i) c) (above (reds i).low (reds i).high)) [])
+      (λ i. sent_of (λ p. gather (as_red (m i) (sym held i) c) (above p.low p.high)) (reds i)) ∙ sent_by _ _ _
 
-  pub red_none : (me : ℕ) (o : List ℕ) → me ≡ number_at 1 b at_me → not x.mine ≡ true → Sends (length (red_part b c)) (red_part b c) o o 0
+  pub red_none : (me : ℕ) (o : List ℕ) → me ≡ number_at 1 b at_me → x ≡ None → Sends (length (red_part b c)) (red_part b c) o o 0
   red_none me o m t =
-      none_sent_at (red_part b c) (sym (pick_no x.mine [] (reds_of me c x.low x.high b) [] (not-true x.mine t) refl ∙ red_is me m)) o
+      none_sent_at (red_part b c) (sym (red_is me m) ∙ ap (sent_of (λ p. reds_of me c p.low p.high b)) t) o
 
-  module _ (me : ℕ) (m : me ≡ number_at 1 b at_me) (t : not x.mine ≡ false) where
-    red_whole : reds_of me c x.low x.high b ≡ red_part b c
-    red_whole = pick_yes x.mine _ (reds_of me c x.low x.high b) [] (not-false x.mine t) refl ∙ red_is me m
+  module _ (me : ℕ) (p : Part) (m : me ≡ number_at 1 b at_me) (t : x ≡ Some p) where
+    red_whole : reds_of me c p.low p.high b ≡ red_part b c
+    red_whole = sym (ap (sent_of (λ p. reds_of me c p.low p.high b)) t) ∙ red_is me m
 
     pub part_room : (o : List ℕ) → most_retransmission * length (red_part b c) ≤ length o
-        → most_retransmission * length (reds_of me c x.low x.high b) ≤ length o
-    part_room o l = same_room (reds_of me c x.low x.high b) (red_part b c) o red_whole l
+        → most_retransmission * length (reds_of me c p.low p.high b) ≤ length o
+    part_room o l = same_room (reds_of me c p.low p.high b) (red_part b c) o red_whole l
 
-    pub red_sent : (r : ℕ) (o o₁ : List ℕ) → Sends (length (reds_of me c x.low x.high b)) (reds_of me c x.low x.high b) o o₁ r
+    pub red_sent : (r : ℕ) (o o₁ : List ℕ) → Sends (length (reds_of me c p.low p.high b)) (reds_of me c p.low p.high b) o o₁ r
         → Sends (length (red_part b c)) (red_part b c) o o₁ r
-    red_sent r o o₁ a = same_sent r (reds_of me c x.low x.high b) (red_part b c) o o₁ red_whole a
+    red_sent r o o₁ a = same_sent r (reds_of me c p.low p.high b) (red_part b c) o o₁ red_whole a
 
 -- ---- every creator
 

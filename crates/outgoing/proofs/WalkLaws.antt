@@ -25,7 +25,8 @@ use Rattle.install.proofs.NextLaws.{NoneOver, none_next, none_before, none_found
 use Rattle.install.proofs.Places.{position_at_lem}
 use Rattle.install.proofs.SwapLaws.{Once}
 use Rattle.install.proofs.TableLaws.{read_at, read_id, queue_once}
-use Rattle.install.specs.Table.{log_in, id_in, NextFrom}
+use Rattle.install.specs.Table.{log_in, id_in, NextFrom, NextAt}
+use Rattle.std.specs.Prelude.{None}
 use Rattle.outgoing.specs.Resending.{queue_in, from_place, at_position, as_red, greens_of, reds_of, one_of, Sends, PositionsIn, IsNextRed}
 use Rattle.outgoing.proofs.GatherLaws.{Nothing, none_above, one_above, more_above, more_count}
 use Rattle.outgoing.proofs.ResendingLaws.{rest, restored, rest_length, sends_none, sends_next, position_there}
@@ -116,7 +117,7 @@ red_at : (me c y k : ℕ) (l : List Action) → find (id_of c y) l ≡ at l k �
 unfolding as_red from_place
 red_at me c y k l e = ap (λ (x : Option Action). one_of (resent me 0 x)) e
 
-module _ (b : List ℕ) (s : HoldsSome b) (c i k n : ℕ) (next : NextFrom 0 c i k b) (count : n ≡ number_at 4 b at_queue_length) where
+module _ (b : List ℕ) (s : HoldsSome b) (c i : ℕ) where
   held : queue (log_in b) ≡ queue_in b
   unfolding queue_in log_in
   held = sym (queue_read (decoded b) b (such_decoded _ b s))
@@ -124,19 +125,16 @@ module _ (b : List ℕ) (s : HoldsSome b) (c i k n : ℕ) (next : NextFrom 0 c i
   empty : (m : ℕ) → NoneOver c i m (queue (log_in b)) → (me : ℕ) → reds_of me c i m b ≡ []
   empty m h me = none_above (as_red me (queue_in b) c) i m (none_reds me c i m (queue_in b) (subst (NoneOver c i m) held h))
 
-  pub none_left : (m : ℕ) → i < m → n ≤ k → (me : ℕ) → reds_of me c i m b ≡ []
-  none_left m l h = empty m (none_next b s 0 c i k next m (omega arith))
+  pub none_left : (m : ℕ) → NextFrom 0 c i None b → (me : ℕ) → reds_of me c i m b ≡ []
+  none_left m next = empty m (none_next b s 0 c i m next)
 
-  module _ (x : ℕ) (low : k < n) (read : x ≡ (id_in b k).index) where
-    h : k < queue_count b
-    h = omega arith
-
+  module _ (k x : ℕ) (next : NextAt (queue_count b) 0 c i k b) (read : x ≡ (id_in b k).index) where
     pub short_left : (m : ℕ) → m < x → (me : ℕ) → reds_of me c i m b ≡ []
-    short_left m less = empty m (none_before b s 0 c i k next m h (omega arith))
+    short_left m less = empty m (none_before b s 0 c i m k next (omega arith))
 
     there : at (queue_in b) k ≡ some (action_at b (place the_queue b + slot_size * k))
     unfolding log_in
-    there = ap (λ (l : List Action). at l k) (sym held) ∙ read_at (decoded b) b (such_decoded _ b s) k h
+    there = ap (λ (l : List Action). at l k) (sym held) ∙ read_at (decoded b) b (such_decoded _ b s) k next.high
 
     -- It is found by its id.
     found : find (id_of c x) (queue_in b) ≡ at (queue_in b) k
@@ -145,12 +143,12 @@ module _ (b : List ℕ) (s : HoldsSome b) (c i k n : ℕ) (next : NextFrom 0 c i
         let a : Action = action_at b (place the_queue b + slot_size * k) in
         let r = such_decoded _ b s in
         let once : Once (queue_in b) = subst Once held (queue_once (decoded b) b r) in
-        let id : id_in b k ≡ a.id = read_id (decoded b) b r k a (read_at (decoded b) b r k h) in
-        let named : id_of c x ≡ a.id = (λ j. id_of (sym (next.here h).0 j) (read j)) ∙ id in
+        let id : id_in b k ≡ a.id = read_id (decoded b) b r k a (read_at (decoded b) b r k next.high) in
+        let named : id_of c x ≡ a.id = (λ j. id_of (sym next.creator j) (read j)) ∙ id in
         find_at (id_of c x) (queue_in b) ∙ ap (λ (d : Id). at (queue_in b) (position d (queue_in b))) named ∙ ap (at (queue_in b)) (position_at_lem (queue_in b) once k a there)
 
     over : i < x
-    over = next_over b 0 c i k x read h next
+    over = next_over b 0 c i k x read next
 
     the_next : (me : ℕ) → reds_of me c i x b ≡ one_of (from_place me 0 (queue_in b) k)
     unfolding one_of
@@ -158,13 +156,13 @@ module _ (b : List ℕ) (s : HoldsSome b) (c i k n : ℕ) (next : NextFrom 0 c i
         let f : ℕ → Option Record = as_red me (queue_in b) c in
         let whole : x - 1 + 1 ≡ x = omega (arith, over) in
         more_above f i (x - 1) x (omega (arith, over)) (omega arith)
-        ∙ ap (λ (rs : List Record). rs ++ reds_of me c (x - 1) x b) (empty (x - 1) (none_before b s 0 c i k next (x - 1) h (omega (arith, over))) me)
+        ∙ ap (λ (rs : List Record). rs ++ reds_of me c (x - 1) x b) (empty (x - 1) (none_before b s 0 c i (x - 1) k next (omega (arith, over, read))) me)
         ∙ one_above f (x - 1) x (omega (arith, over))
         ∙ ap (λ (z : ℕ). one_of (f z)) whole
         ∙ red_at me c x k (queue_in b) found
 
     pub is_next : (m : ℕ) → x ≤ m → IsNextRed c i m b (record { place = k; index = x })
-    is_next m most = record { there = h; over = over; most = most; alone = the_next }
+    is_next m most = record { there = next.high; over = over; most = most; alone = the_next }
 
 -- ---- one of the creator's actions behind another
 

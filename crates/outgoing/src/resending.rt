@@ -13,9 +13,9 @@ ghost use Rattle.image.specs.Counts.{queue_count};
 
 use crate::payload;
 use exchange::decided::{resends_green, resends_red};
-use image::places::{THE_QUEUE, place_of};
-use install::table::{index_at, next_by, table};
-use octets::numbers::{num8, num32};
+use image::places::{Section, place_of};
+use install::table::{Lookup, index_at, table};
+use octets::numbers::num8;
 use queue::history::{green_length, green_slot, white_length};
 use record::State;
 use record::parts::action_at;
@@ -26,7 +26,7 @@ fn send_slot(state: &[u8], out: &mut [u8], me: u8, position: u32, k: usize) -> u
     requires { QueueIn state.now × (k < queue_count state.now) × (most_retransmission ≤ length out.old) }
     ensures { SendsTo 1 (one_of (from_place me position (queue_in state.now) k)) out result }
 {
-    let a = action_at(state, place_of(state, THE_QUEUE) + State::SLOT * k);
+    let a = action_at(state, place_of(state, Section::Queue) + State::SLOT * k);
     let head = a.head;
     let size = write_retransmission(out, me, position, head, payload(state, a));
     size.unwrap_or(0)
@@ -70,10 +70,14 @@ fn next_red(
     requires { IndexesIn places.now creator high state.now × (i < high) }
     ensures { NextRed creator i high state.now result }
 {
-    let place = next_by(state, places, 0, creator, i as u16);
-    if num32(state, State::AT_QUEUE_LENGTH) as usize <= place {
+    let all = Lookup {
+        state,
+        places,
+        first: 0,
+    };
+    let Some(place) = all.next(creator, i as u16) else {
         return None;
-    }
+    };
     let index = index_at(state, place);
     if high < u32::from(index) {
         return None;
@@ -112,10 +116,9 @@ fn send_green(state: &[u8], out: &mut [u8], me: u8) -> usize
     requires { Stated state.now × OwnNumber me state.now × RoomFor (green_part state.now) out.old }
     ensures { SendsAll (green_part state.now) out result }
 {
-    let part = resends_green(state);
-    if !part.mine {
+    let Some(part) = resends_green(state) else {
         return 0;
-    }
+    };
     let low = part.low.max(white_length(state));
     let high = part.high.min(green_length(state));
     send_positions(state, out, me, low, high)
@@ -126,10 +129,9 @@ fn send_red(state: &[u8], out: &mut [u8], places: &[u16; State::MOST_IDS], me: u
     requires { Resends places.now me state.now × (c < servers_in state.now) × RoomFor (red_part state.now c) out.old }
     ensures { SendsAll (red_part state.now c) out result }
 {
-    let part = resends_red(state, c as usize);
-    if !part.mine {
+    let Some(part) = resends_red(state, c as usize) else {
         return 0;
-    }
+    };
     send_creator(state, out, places, me, c, part.low, part.high)
 }
 

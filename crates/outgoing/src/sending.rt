@@ -10,7 +10,7 @@ ghost use Rattle.outgoing.specs.Sending.{OwnIn, own_at};
 
 use crate::payload;
 use image::header::{load, unsent};
-use image::places::{THE_OWN, place_of};
+use image::places::{Section, place_of};
 use record::State;
 use record::parts::action_at;
 use writer::records::write_action;
@@ -22,7 +22,7 @@ fn send_own(state: &[u8], out: &mut [u8], p: u16) -> usize
 {
     let a = action_at(
         state,
-        place_of(state, THE_OWN) + State::SLOT * (p as usize - 1),
+        place_of(state, Section::Own) + State::SLOT * (p as usize - 1),
     );
     let head = a.head;
     let size = write_action(out, head, payload(state, a));

@@ -7,7 +7,7 @@ ghost use Rattle.outgoing.specs.Lent.{LentSuch};
 ghost use Rattle.outgoing.specs.Sending.{own_head, PutsOwn};
 
 use image::header::load;
-use image::places::{THE_YELLOW, place_of};
+use image::places::{Section, place_of};
 use queue::history::green_length;
 use record::State;
 use record::events::StateHead;
@@ -48,7 +48,7 @@ pub fn send_state(state: &[u8], out: &mut [u8], id: u32) -> u32
     ensures { PutsOwn id result state.now out.old out.new }
 {
     let head = own_numbers(state, id);
-    let at = place_of(state, THE_YELLOW);
+    let at = place_of(state, Section::Yellow);
     let size = write_state(out, head, &state[State::SIZE..], &state[at..]);
     size.unwrap_or(0) as u32
 }

@@ -9,7 +9,7 @@ ghost use Rattle.queue.specs.Queue.{QueueIn};
 ghost use Rattle.queries.specs.Queries.{entry_bytes, entry_head_size, listing, listed};
 
 use crate::GreenEntries;
-use image::places::{THE_QUEUE, place_of};
+use image::places::{Section, place_of};
 use octets::blocks::copy;
 use octets::numbers::num8;
 use queue::history::green_slot;
@@ -40,7 +40,7 @@ pub fn put_entries(state: &[u8], from: u32, white: u32, green: u32, out: &mut [u
     ensures { listed result out.new
         ≡ listing (white_in state.now) (greens_in state.now) from out.old }
 {
-    let queue = place_of(state, THE_QUEUE);
+    let queue = place_of(state, Section::Queue);
     let mut at = 0;
     for k in from..green {
         let slot = queue + State::SLOT * green_slot(state, k);

@@ -9,6 +9,7 @@ use record::events::{Event, StateAt, StateHead, VERSION};
 use record::parts::{action_at, state_head};
 use record::{Kind, State};
 
+// Stays: each frame with a payload tests its length itself, as a function for that test takes as many lines as it saves.
 fn frame_action(e: &[u8]) -> Option<Event>
     ensures { (n : ℕ) → Answers (body_in of_action n e.now) n result e.now }
 {

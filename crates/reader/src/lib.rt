@@ -57,7 +57,6 @@ fn lists_ok(c: Context, s: StateAt, e: &[u8]) -> bool
         && ids_ok(c, e, s.yellow_at, usize::from(count))
 }
 
-#[tactic(auto, using(record::proofs::Chains::chain), unfolding(crate::specs::Reading::numbers_ok, record::specs::Values::state_of, record::specs::Context::context_of, format::specs::Range::length_ok))]
 fn numbers_ok(c: Context, s: StateHead) -> bool
     requires { ContextIn c }
     ensures { (cuts ids : List ℕ) (at start : ℕ) → result ≡ numbers_ok (context_of c) (state_of s cuts at ids start) }

@@ -2,7 +2,6 @@ pub mod Start
 pub mod Ranges
 pub mod OnePass
 pub mod Turns
-pub mod Made
 pub mod SetCode
 pub mod PartLaws
 pub mod Codes

@@ -45,6 +45,7 @@ impl LastPrimary {
     pub const SIZE: usize = LastPrimary::SET + 1;
 
     // The one with these members that no Install made.
+    #[tactic(auto, unfolding(crate::specs::Values::last_of))]
     pub fn first(set: u8) -> LastPrimary
         ensures { result ≡ last_of (first_primary set) }
     {
@@ -57,6 +58,7 @@ impl LastPrimary {
 }
 
 // What a server stores of the primary component that it attempts to create.
+// Stays: a record's status may be any byte (only 0 and 1 are in range), and its other numbers are read and kept whatever it is.
 #[derive(Clone, Copy, Debug, PartialEq, Eq)]
 pub struct Mark {
     pub status: u8,
@@ -278,6 +280,7 @@ impl State {
 
     // "At the start: Non_prim, no configuration, nothing held or marked, yellow invalid, attempt 0, last primary (index 0,
     // attempt 0, all servers)."
+    #[tactic(auto, unfolding(crate::specs::Start::start_of))]
     pub fn start(servers: u8, quota: u16, me: u8) -> State
         requires { servers ≤ most_servers_limit }
         ensures { result ≡ start_of servers quota me }
@@ -318,6 +321,7 @@ impl State {
     }
 
     // What an event that comes in this state is read against.
+    #[tactic(auto, unfolding(crate::specs::Context::reading_context))]
     pub fn context(self) -> Context
         ensures { result ≡ reading_context self }
     {

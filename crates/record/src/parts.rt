@@ -40,6 +40,7 @@ pub fn is_id(e: &[u8], at: usize, creator: u8, index: u16) -> bool
 }
 
 // The action from `at` on.
+#[tactic(auto, unfolding(crate::specs::Events::action_in))]
 pub fn action_at(e: &[u8], at: usize) -> ActionAt
     requires { at + action_head_size ≤ length e.now }
     ensures { result ≡ action_in e.now at }
@@ -57,6 +58,7 @@ pub fn action_at(e: &[u8], at: usize) -> ActionAt
     }
 }
 
+#[tactic(auto, unfolding(crate::specs::Events::last_in, crate::specs::Values::last_of, format::specs::Read::primary_at))]
 pub fn last_at(e: &[u8], at: usize) -> LastPrimary
     requires { at + primary_size ≤ length e.now }
     ensures { result ≡ last_in e.now at }
@@ -68,6 +70,7 @@ pub fn last_at(e: &[u8], at: usize) -> LastPrimary
     }
 }
 
+#[tactic(auto, unfolding(crate::specs::Events::mark_in))]
 pub fn mark_at(e: &[u8], at: usize) -> Mark
     requires { at + mark_size ≤ length e.now }
     ensures { result ≡ mark_in e.now at }
@@ -82,6 +85,7 @@ pub fn mark_at(e: &[u8], at: usize) -> Mark
 }
 
 // The numbers of a State of this many servers. Those behind its cuts begin at `at`.
+#[tactic(auto, unfolding(crate::specs::Events::head_in))]
 pub fn state_head(e: &[u8], servers: u8, at: usize) -> StateHead
     requires { (state_cuts_at ≤ at) × (at + standing_size ≤ length e.now) }
     ensures { result ≡ head_in servers e.now at }

@@ -1,6 +1,4 @@
 // Which numbers, sets and lists are in range: document 01, 'Records', second paragraph.
-#![tactic(auto, using(crate::proofs::Chains::chain), unfolding(format::specs::Range::sizes_ok, format::specs::Range::context_ok, format::specs::Range::id_ok, format::specs::Range::index_ok, format::specs::Range::set_ok, format::specs::Range::status_ok, format::specs::Range::primary_ok, format::specs::Range::mark_ok, format::specs::Range::own_set_ok, crate::specs::Context::context_of, crate::specs::Values::primary_of, crate::specs::Values::mark_of, crate::specs::Values::id_of, crate::specs::Limits::the_limits))]
-
 ghost use Rattle.std.specs.Prelude.{◌≡◌, ◌*◌, ◌≤◌};
 ghost use Rattle.base.specs.Tests.{◌≤?◌};
 ghost use Rattle.format.specs.Limits.{most_servers_limit, most_length_limit};
@@ -26,6 +24,7 @@ pub struct Limits {
 }
 
 impl Limits {
+    #[tactic(auto, unfolding(crate::specs::Limits::the_limits))]
     pub fn all() -> Limits
         ensures { result ≡ the_limits }
     {
@@ -43,6 +42,7 @@ impl Limits {
 }
 
 // "Servers: 2 to 8 .. Quota q: 1 to 256"
+#[tactic(auto, using(crate::proofs::Chains::chain), unfolding(format::specs::Range::sizes_ok))]
 pub fn sizes_ok(servers: u32, quota: u32) -> bool
     ensures { result ≡ sizes_ok servers quota }
 {
@@ -52,6 +52,7 @@ pub fn sizes_ok(servers: u32, quota: u32) -> bool
         && quota <= u32::from(State::MOST_QUOTA)
 }
 
+#[tactic(auto, using(crate::proofs::Chains::chain), unfolding(format::specs::Range::context_ok, crate::specs::Context::context_of))]
 pub fn context_ok(c: Context) -> bool
     ensures { result ≡ context_ok (context_of c) }
 {
@@ -59,6 +60,7 @@ pub fn context_ok(c: Context) -> bool
 }
 
 // K6: "indexes and cuts run to 65,535", the most that two bytes hold.
+#[tactic(auto, using(crate::proofs::Chains::chain), unfolding(format::specs::Range::id_ok, crate::specs::Context::context_of, crate::specs::Values::id_of))]
 pub fn id_ok(c: Context, id: ActionId) -> bool
     ensures { result ≡ id_ok (context_of c) (the_id id) }
 {
@@ -73,6 +75,7 @@ pub fn product(n: u32, m: u32) -> u32
 }
 
 // K6: "positions and lengths to 524,280"
+#[tactic(auto, using(crate::proofs::Chains::chain))]
 pub fn length_ok(length: u32) -> bool
     ensures { result ≡ (length ≤? most_length_limit) }
 {
@@ -80,6 +83,7 @@ pub fn length_ok(length: u32) -> bool
 }
 
 // "Primary and attempt indexes run 0 to 4,000,000,000."
+#[tactic(auto, using(crate::proofs::Chains::chain), unfolding(format::specs::Range::index_ok))]
 pub fn index_ok(i: u32) -> bool
     ensures { result ≡ index_ok i }
 {
@@ -87,6 +91,7 @@ pub fn index_ok(i: u32) -> bool
 }
 
 // "A status is 0 or 1."
+#[tactic(auto, using(crate::proofs::Chains::chain), unfolding(format::specs::Range::status_ok))]
 pub fn status_ok(s: u8) -> bool
     ensures { result ≡ status_ok s }
 {
@@ -101,6 +106,7 @@ pub fn set_ok(c: Context, s: u8) -> bool
     u32::from(s) < 1 << c.servers
 }
 
+#[tactic(auto, using(crate::proofs::Chains::chain), unfolding(format::specs::Range::primary_ok, crate::specs::Values::primary_of))]
 pub fn primary_ok(c: Context, p: LastPrimary) -> bool
     requires { ContextIn c }
     ensures { result ≡ primary_ok (context_of c) (primary_of p) }
@@ -108,6 +114,7 @@ pub fn primary_ok(c: Context, p: LastPrimary) -> bool
     index_ok(p.index.0) && index_ok(p.attempt.0) && set_ok(c, p.set)
 }
 
+#[tactic(auto, using(crate::proofs::Chains::chain), unfolding(format::specs::Range::mark_ok, crate::specs::Values::mark_of))]
 pub fn mark_ok(c: Context, m: Mark) -> bool
     requires { ContextIn c }
     ensures { result ≡ mark_ok (context_of c) (mark_of m) }
@@ -120,6 +127,7 @@ pub fn mark_ok(c: Context, m: Mark) -> bool
 }
 
 // "A regular set holds the server itself"
+#[tactic(auto, using(crate::proofs::Chains::chain), unfolding(format::specs::Range::own_set_ok, crate::specs::Context::context_of))]
 pub fn own_set_ok(c: Context, s: u8) -> bool
     requires { ContextIn c }
     ensures { result ≡ own_set_ok (context_of c) s }

@@ -21,6 +21,8 @@ use register_check::contents::Register;
 use register_check::layout::{MOST_PEGS, REGISTER_LENGTH};
 use register_check::refusing::RegisterRefusal;
 
+// Stays: that the register reads is required, not a field of a struct over `&mut`: no plainer, since a change breaks it between two of its writes.
+
 // "9 set and the name is there, then 13 a set while 4,096 stand"
 fn set_peg(register: &mut [u8], name: &[u8], place: Place) -> Result<(), RegisterRefusal>
     requires { (register_number register.old ≡ 0) × (length name.now ≤ most_name) }

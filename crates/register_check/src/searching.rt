@@ -8,6 +8,7 @@ use super::contents::Register;
 
 impl Register<'_> {
     // How many pegs stand before this name.
+    // Stays: halving by hand, since std's binary_search_by over `as_chunks` is no plainer: its closure serves any 33 bytes, so each name is cut anew.
     fn position(self, name: &[u8]) -> usize
         ensures { result ≡ position_of name.now (pegs_in self.entry.bytes.now) }
     {

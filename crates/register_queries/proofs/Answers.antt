@@ -11,7 +11,6 @@ use Rattle.refusals.specs.declared.Refusal.{Refusal}
 use Rattle.refusals.specs.Numbers.{refusal_number}
 use Rattle.register_check.specs.declared.contents.Register.{Register}
 use Rattle.register_check.specs.declared.refusing.RegisterRefusal.{RegisterRefusal}
-use Rattle.register_check.specs.declared.refusing.RegisterRefusal.TheVariants.{Buffer, PegThere, PegNotThere, NoOperation, BadRectangle, RegisterFull}
 use Rattle.register_check.specs.Numbers.{refused_number}
 use Rattle.register_check.proofs.Found.{refusal_some, refused_some}
 use Rattle.register_queries.specs.Arguments.{held_number}

@@ -19,6 +19,7 @@ use register_check::contents::Register;
 use register_check::refusing::RegisterRefusal;
 
 // The pegs inside a rectangle, edges included: 7, 8, then 12.
+// Stays: four numbers in place of a `Rectangle`, as C gives them to guzbytor_register_rectangle.
 pub fn in_rectangle(
     register: &[u8],
     west: i32,

@@ -27,7 +27,7 @@ use Rattle.pegs.specs.Image.{pegs_in}
 use Rattle.pegs.specs.Outcome.{register_number, applied_all}
 use Rattle.pegs.proofs.Advance.{refusals_append, applied_all_append}
 use Rattle.step.specs.declared.Answer.{Answer}
-use Rattle.step.specs.Answers.{answered, store_word}
+use Rattle.step.specs.Answers.{answered, store_word, refused_with as refused_as}
 use Rattle.std.specs.Int.{from_bool}
 use Rattle.refusals.specs.declared.Refusal.{Refusal}
 use Rattle.refusals.specs.Numbers.{refusal_number}
@@ -148,21 +148,23 @@ module _ (b r o : List ℕ) (ready : joint_number b r o ≡ 0) where
       event_raises = raise_ready b₁ e o event_number a g b₂ o₂ y
 
       -- The event is refused.
-      pub event_refused : (x : RegisterAnswer) → (a.number ≡ 0 → ⊥) → x ≡ refused_with a.number → joined x b₂ r₁ o₂ ≡ joint_on b r e o
+      pub event_refused : (f : Refusal) → a ≡ refused_as (refusal_number f) → joined (refused_with (refusal_number f)) b₂ r₁ o₂ ≡ joint_on b r e o
       unfolding joined answered refusal greened joint_of unjoined
-      event_refused x n h =
+      event_refused f is-a =
+          let n : a.number ≡ 0 → ⊥ = λ q. refusal_some f (sym (ap (λ (v : Answer). v.number) is-a) ∙ q) in
+          let h : refused_with (refusal_number f) ≡ refused_with a.number = ap (λ (v : Answer). refused_with v.number) (sym is-a) in
           let number : a.number ≡ (unraised_step m e b₁ o).number = ap (λ (v : Result). v.number) acted in
-          let f = first_refuses s e b held b₁ here.state o (λ q. n (number ∙ q)) in
-          let j : ℕ = f.0 in
-          let told : answered a b₂ o₂ ≡ refusal j b₁ o = acted ∙ f.1 in
-          let unmet = refused_unmet s e b held j f.2 in
+          let w = first_refuses s e b held b₁ here.state o (λ q. n (number ∙ q)) in
+          let j : ℕ = w.0 in
+          let told : answered a b₂ o₂ ≡ refusal j b₁ o = acted ∙ w.1 in
+          let unmet = refused_unmet s e b held j w.2 in
           let back : b₁ ≡ b = here.state ∙ ap (λ (t : Server). image t b) unmet.0 ∙ held.written in
           let none : greened s m ≡ [] = ap (greened s) unmet.0 ∙ drop-length s.log.green in
           let kept : r₁ ≡ r = (counted first (greened s m) r r₁ here.carried).2 ∙ ap (λ (l : List Action). carried l r) none ∙ carried_none r in
           (λ i. joined (h i) b₂ (kept i) o₂)
           ∙ (λ i. unjoined (told i).number (told i).state r (told i).out)
           ∙ ap (λ (d : List ℕ). unjoined j d r o) back
-          ∙ ap (λ (w : Outcome (List ℕ)). joint_of (image_after s e) w b r o) (sym unmet.1)
+          ∙ ap (λ (x : Outcome (List ℕ)). joint_of (image_after s e) x b r o) (sym unmet.1)
           ∙ sym (joint_read b r e o ready)
 
       -- ---- the event is taken

@@ -28,6 +28,9 @@ use Rattle.outgoing.proofs.LentFacts.{lent_fact}
 use Rattle.step.proofs.AnswerLaws.{Passes, untaken, impossible, passed, passed_fits, refused_as, quiet_as}
 use Rattle.step.proofs.ModeLaws.{regular_not, no_transitional, leads}
 use Rattle.step.proofs.ForceLaws.{numbers_mode, numbers_at_lem}
+use Rattle.std.specs.Prelude.{Option as Maybe, Some, None}
+use Rattle.record.specs.declared.modes.Mode.{Mode as Code}
+use Rattle.record.specs.Codes.{mode_code}
 
 -- ---- regular ones
 
@@ -139,22 +142,22 @@ module _ (h : Numbers) (set : ℕ) (b : List ℕ) (f : HoldsSuch (InForce h (tra
   unfolding possible
   transitional_second t d n v q s o y = refused_as (ruled s x) v 5 b o q (impossible s x (sym (d s (force_such s y).numbers) ∙ not-true t n))
 
-  module _ (l : ℕ) (g : (m : Mode) → h.mode ≡ mode_number m → l ≡ mode_after m) where
+  module _ (l : Maybe Code) (g : (m : Mode) → h.mode ≡ mode_number m → l ≡ mode_after m) where
     after : (s : Server) → Holds s b → l ≡ mode_after s.membership.mode
     after s y = g s.membership.mode (numbers_mode h s (force_such s y).numbers)
 
-    pub transitional_untaken : l ≡ 8 → (v : Answer) → v ≡ refused_with not_now
+    pub transitional_untaken : l ≡ None → (v : Answer) → v ≡ refused_with not_now
         → (s : Server) (o : List ℕ) → Holds s b → answered v b o ≡ outcome_on (ruled s (transitional set)) b o
     unfolding rule_for
     transitional_untaken e v q s o y =
         refused_as (ruled s x) v 5 b o q (untaken s x (no_transitional s.membership.mode set (sym (after s y) ∙ e)))
 
-    pub transitional_left : (t : Bool) → ((s : Server) → h ≡ header_of s → t ≡ transitional_due s.membership) → (l ≡ 8 → ⊥) → not t ≡ false
-        → (v : Answer) (z : List ℕ) → ((s : Server) (m : Mode) → Holds s b → l ≡ mode_number m → z ≡ image (leave m set s) b) → v ≡ quietly
+    pub transitional_left : (t : Bool) → ((s : Server) → h ≡ header_of s → t ≡ transitional_due s.membership) → (k : Code) → l ≡ Some k → not t ≡ false
+        → (v : Answer) (z : List ℕ) → ((s : Server) (m : Mode) → Holds s b → mode_code k ≡ mode_number m → z ≡ image (leave m set s) b) → v ≡ quietly
         → (s : Server) (o : List ℕ) → Holds s b → answered v z o ≡ outcome_on (ruled s (transitional set)) b o
     unfolding rule_for possible is_ignored from_member within_quota ◌or◌ apply
-    transitional_left t d e n v z w q s o y =
-        let k = leads s.membership.mode set (λ i. e (after s y ∙ i)) in
+    transitional_left t d j e n v z w q s o y =
+        let k = leads s.membership.mode set j (sym (after s y) ∙ e) in
         let p : Passes s x (leaving k.0 set) = record {
           rule = k.1;
           possible = sym (d s (force_such s y).numbers)
@@ -162,4 +165,4 @@ module _ (h : Numbers) (set : ℕ) (b : List ℕ) (f : HoldsSuch (InForce h (tra
           member = refl;
           quota = refl;
         } in
-        quiet_as s (leave k.0 set s) (ruled s x) v b z o q (passed s x (leaving k.0 set) p) (w s k.0 y (after s y ∙ k.2))
+        quiet_as s (leave k.0 set s) (ruled s x) v b z o q (passed s x (leaving k.0 set) p) (w s k.0 y k.2)

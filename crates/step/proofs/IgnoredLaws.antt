@@ -95,26 +95,40 @@ module _ (k : ℕ) (v : Event) where
   unfolding rule_for record_of
   cpc_told j i q m e h = ap (λ (n : ℕ). eqb n 0) h ∙ cpc_ignored m j ∙ by_event (Cpc j i) q m e
 
-  pub action_told : (a : ActionAt) → v ≡ Action a → (m : Mode) (e : List ℕ) → k ≡ mode_number m → false ≡ ignored_by (rule_for m (record_of v e))
+  action_told : (a : ActionAt) → v ≡ Action a → (m : Mode) (e : List ℕ) → k ≡ mode_number m → false ≡ ignored_by (rule_for m (record_of v e))
   unfolding rule_for record_of
   action_told a q m e h = action_heard m (action_from a e) ∙ by_event (Action a) q m e
 
-  pub retransmission_told : (j i : ℕ) (a : ActionAt) → v ≡ Retransmission j i a → (m : Mode) (e : List ℕ) → k ≡ mode_number m → false ≡ ignored_by (rule_for m (record_of v e))
+  retransmission_told : (j i : ℕ) (a : ActionAt) → v ≡ Retransmission j i a → (m : Mode) (e : List ℕ) → k ≡ mode_number m → false ≡ ignored_by (rule_for m (record_of v e))
   unfolding rule_for record_of
   retransmission_told j i a q m e h = retransmission_heard m i (action_from a e) ∙ by_event (Retransmission j i a) q m e
 
-  pub regular_told : (i s : ℕ) → v ≡ Regular i s → (m : Mode) (e : List ℕ) → k ≡ mode_number m → false ≡ ignored_by (rule_for m (record_of v e))
+  regular_told : (i s : ℕ) → v ≡ Regular i s → (m : Mode) (e : List ℕ) → k ≡ mode_number m → false ≡ ignored_by (rule_for m (record_of v e))
   unfolding rule_for record_of
   regular_told i s q m e h = regular_heard m (record { id = i; set = s }) ∙ by_event (Regular i s) q m e
 
-  pub transitional_told : (s : ℕ) → v ≡ Transitional s → (m : Mode) (e : List ℕ) → k ≡ mode_number m → false ≡ ignored_by (rule_for m (record_of v e))
+  transitional_told : (s : ℕ) → v ≡ Transitional s → (m : Mode) (e : List ℕ) → k ≡ mode_number m → false ≡ ignored_by (rule_for m (record_of v e))
   unfolding rule_for record_of
   transitional_told s q m e h = transitional_heard m s ∙ by_event (Transitional s) q m e
 
-  pub request_told : (at n : ℕ) → v ≡ Request at n → (m : Mode) (e : List ℕ) → k ≡ mode_number m → false ≡ ignored_by (rule_for m (record_of v e))
+  request_told : (at n : ℕ) → v ≡ Request at n → (m : Mode) (e : List ℕ) → k ≡ mode_number m → false ≡ ignored_by (rule_for m (record_of v e))
   unfolding rule_for record_of ignored_by is_ignored
   request_told at n q m e h = refl ∙ by_event (Request at n) q m e
 
-  pub recovery_told : v ≡ Recovery → (m : Mode) (e : List ℕ) → k ≡ mode_number m → false ≡ ignored_by (rule_for m (record_of v e))
+  recovery_told : v ≡ Recovery → (m : Mode) (e : List ℕ) → k ≡ mode_number m → false ≡ ignored_by (rule_for m (record_of v e))
   unfolding rule_for record_of ignored_by is_ignored
   recovery_told q m e h = refl ∙ by_event (Recovery) q m e
+
+  pub other_told : ((x : StateAt) → v ≡ State x → ⊥) → ((j i : ℕ) → v ≡ Cpc j i → ⊥) → (m : Mode) (e : List ℕ) → k ≡ mode_number m
+      → false ≡ ignored_by (rule_for m (record_of v e))
+  other_told no_state no_cpc m e h = go v refl
+    where
+      go : (w : Event) → v ≡ w → false ≡ ignored_by (rule_for m (record_of v e))
+      go (Action a) q = action_told a q m e h
+      go (Retransmission j i a) q = retransmission_told j i a q m e h
+      go (State x) q = absurd (no_state x q)
+      go (Cpc j i) q = absurd (no_cpc j i q)
+      go (Regular i s) q = regular_told i s q m e h
+      go (Transitional s) q = transitional_told s q m e h
+      go (Request at n) q = request_told at n q m e h
+      go Recovery q = recovery_told q m e h

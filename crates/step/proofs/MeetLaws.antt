@@ -1,11 +1,10 @@
 -- The state that an event's action meets: only an action in Un meets another than the event came to.
 use Prim.Native.Nat.{ℕ, ◌≤◌}
 use mathlib.Core.Path.{◌≡◌, refl, sym, ap, subst, ◌∙◌}
-use mathlib.Core.Bool.{Bool, true, false, not}
+use mathlib.Core.Bool.{Bool, true, false}
 use mathlib.Core.List.{List}
 use mathlib.Core.Option.{some}
 use lib.ListN.{length}
-use borrow.Author.Tests.{not-true, not-false}
 use Rattle.base.specs.Bytes.{part_at}
 use Rattle.base.specs.Tests.{◌or◌, ◌=?◌, pick}
 use Rattle.base.proofs.TestLaws.{pick_either, pick_yes, pick_no}
@@ -197,16 +196,19 @@ module _ (h : Numbers) (x : ActionHead) (s : Server) (p : List ℕ) (e : h ≡ h
   unfolding from_member is_ignored ◌or◌ action_of id_of
   member_told t d = d s e
 
-  pub pass_unnumbered : (t : Bool) → OwnNumbered h x t → not t ≡ true → Meets false s (action (action_of x p))
+  pass_not : (t : Bool) → OwnNumbered h x t → t ≡ false → Meets false s (action (action_of x p))
   unfolding unraised pick
-  pass_unnumbered t d n = row_stays s (action a) 5 (rows_impossible sieving s (action a) (sym (own_told t d) ∙ not-true t n))
+  pass_not t d n = row_stays s (action a) 5 (rows_impossible sieving s (action a) (sym (own_told t d) ∙ n))
 
-  pub pass_by_member : (t : Bool) → OwnNumbered h x t → not t ≡ false → (w : Bool) → Member h x.creator w → Meets w s (action (action_of x p))
+  pub pass_unnumbered : (t : Bool) → OwnNumbered h x t → t ≡ false → Meets t s (action (action_of x p))
+  pass_unnumbered t d n = subst (λ (u : Bool). Meets u s (action (action_of x p))) (sym n) (pass_not t d n)
+
+  pub pass_by_member : (t : Bool) → OwnNumbered h x t → t ≡ true → (w : Bool) → Member h x.creator w → Meets w s (action (action_of x p))
   unfolding unraised pick is_ignored ◌or◌
   pass_by_member t d n false m =
       row_stays s (action a) 6
-      (rows_outside sieving s (action a) (late_installing a) late_rule (sym (own_told t d) ∙ not-false t n) (sym (member_told false m)))
-  pass_by_member t d n true m = action_met s a un (sym (own_told t d) ∙ not-false t n) (sym (member_told true m))
+      (rows_outside sieving s (action a) (late_installing a) late_rule (sym (own_told t d) ∙ n) (sym (member_told false m)))
+  pass_by_member t d n true m = action_met s a un (sym (own_told t d) ∙ n) (sym (member_told true m))
 
 -- ---- an event in Un, as the code tells it
 
@@ -220,33 +222,48 @@ module _ (h : Numbers) (v : Event) where
   unfolding record_of action_from
   first_action a q t m s e n un = by_event (variants.Action a) q t s e (m s _ n un)
 
-  pub first_retransmission : (k i : ℕ) (a : ActionAt) → v ≡ variants.Retransmission k i a → (s : Server) (e : List ℕ) → h ≡ header_of s → s.membership.mode ≡ Un → Meets false s (record_of v e)
+  first_retransmission : (k i : ℕ) (a : ActionAt) → v ≡ variants.Retransmission k i a → (s : Server) (e : List ℕ) → h ≡ header_of s → s.membership.mode ≡ Un → Meets false s (record_of v e)
   unfolding record_of pick
   first_retransmission k i a q s e n un = by_event (variants.Retransmission k i a) q false s e (retransmission_stays s k i (action_from a e))
 
-  pub first_state : (x : StateAt) → v ≡ variants.State x → (s : Server) (e : List ℕ) → h ≡ header_of s → s.membership.mode ≡ Un → Meets false s (record_of v e)
+  first_state : (x : StateAt) → v ≡ variants.State x → (s : Server) (e : List ℕ) → h ≡ header_of s → s.membership.mode ≡ Un → Meets false s (record_of v e)
   unfolding record_of pick
   first_state x q s e n un = by_event (variants.State x) q false s e (state_stays s (state_from x e))
 
-  pub first_cpc : (k i : ℕ) → v ≡ variants.Cpc k i → (s : Server) (e : List ℕ) → h ≡ header_of s → s.membership.mode ≡ Un → Meets false s (record_of v e)
+  first_cpc : (k i : ℕ) → v ≡ variants.Cpc k i → (s : Server) (e : List ℕ) → h ≡ header_of s → s.membership.mode ≡ Un → Meets false s (record_of v e)
   unfolding record_of pick
   first_cpc k i q s e n un = by_event (variants.Cpc k i) q false s e (cpc_stays s k i)
 
-  pub first_regular : (i k : ℕ) → v ≡ variants.Regular i k → (s : Server) (e : List ℕ) → h ≡ header_of s → s.membership.mode ≡ Un → Meets false s (record_of v e)
+  first_regular : (i k : ℕ) → v ≡ variants.Regular i k → (s : Server) (e : List ℕ) → h ≡ header_of s → s.membership.mode ≡ Un → Meets false s (record_of v e)
   unfolding record_of pick
   first_regular i k q s e n un = by_event (variants.Regular i k) q false s e (regular_stays s i k)
 
-  pub first_transitional : (k : ℕ) → v ≡ variants.Transitional k → (s : Server) (e : List ℕ) → h ≡ header_of s → s.membership.mode ≡ Un → Meets false s (record_of v e)
+  first_transitional : (k : ℕ) → v ≡ variants.Transitional k → (s : Server) (e : List ℕ) → h ≡ header_of s → s.membership.mode ≡ Un → Meets false s (record_of v e)
   unfolding record_of pick
   first_transitional k q s e n un = by_event (variants.Transitional k) q false s e (transitional_stays s k)
 
-  pub first_request : (at m : ℕ) → v ≡ variants.Request at m → (s : Server) (e : List ℕ) → h ≡ header_of s → s.membership.mode ≡ Un → Meets false s (record_of v e)
+  first_request : (at m : ℕ) → v ≡ variants.Request at m → (s : Server) (e : List ℕ) → h ≡ header_of s → s.membership.mode ≡ Un → Meets false s (record_of v e)
   unfolding record_of pick
   first_request at m q s e n un = by_event (variants.Request at m) q false s e (request_stays s (part_at m e at))
 
-  pub first_recovery : v ≡ variants.Recovery → (s : Server) (e : List ℕ) → h ≡ header_of s → s.membership.mode ≡ Un → Meets false s (record_of v e)
+  first_recovery : v ≡ variants.Recovery → (s : Server) (e : List ℕ) → h ≡ header_of s → s.membership.mode ≡ Un → Meets false s (record_of v e)
   unfolding record_of pick
   first_recovery q s e n un = by_event variants.Recovery q false s e (recovery_stays s)
+
+  -- Anything but an action.
+  pub first_other : ((a : ActionAt) → v ≡ variants.Action a → ⊥) → (s : Server) (e : List ℕ) → h ≡ header_of s → s.membership.mode ≡ Un
+      → Meets false s (record_of v e)
+  first_other no_action s e n un = go v refl
+    where
+      go : (w : Event) → v ≡ w → Meets false s (record_of v e)
+      go (variants.Action a) q = absurd (no_action a q)
+      go (variants.Retransmission k i a) q = first_retransmission k i a q s e n un
+      go (variants.State x) q = first_state x q s e n un
+      go (variants.Cpc k i) q = first_cpc k i q s e n un
+      go (variants.Regular i k) q = first_regular i k q s e n un
+      go (variants.Transitional k) q = first_transitional k q s e n un
+      go (variants.Request at m) q = first_request at m q s e n un
+      go variants.Recovery q = first_recovery q s e n un
 
 -- ---- the event's bytes
 

@@ -13,6 +13,9 @@ use Rattle.image.specs.Header.{mode_number}
 use Rattle.image.specs.Decode.{mode_named}
 use Rattle.guards.specs.Modes.{mode_after}
 use Rattle.guards.proofs.ModeLaws.{at_mode_lem}
+use Rattle.std.specs.Prelude.{Option as Maybe, Some, None}
+use Rattle.record.specs.declared.modes.Mode.{Mode as Code}
+use Rattle.record.specs.Codes.{mode_code}
 
 -- ---- actions
 
@@ -103,24 +106,39 @@ regular_not k x y z w Construct c e = refl
 regular_not k x y z w No c e = absurd (z e)
 regular_not k x y z w Un c e = absurd (y e)
 
-pub no_transitional : (m : Mode) (t : ℕ) → mode_after m ≡ 8 → on_transitional m t ≡ none
-unfolding mode_number mode_after on_transitional
-no_transitional Non_prim t e = absurd (omega arith)
-no_transitional Reg_prim t e = absurd (omega arith)
+-- Whether there is one, and its number.
+there : Maybe Code → ℕ
+there None = 0
+there (Some k) = 1
+
+code_in : Maybe Code → ℕ
+code_in None = 8
+code_in (Some k) = mode_code k
+
+none_there : {X : Type 0} (k : Code) → None ≡ Some k → X
+none_there k e = absurd (omega (arith, ap there e))
+
+some_there : {X : Type 0} (k : Code) → Some k ≡ None → X
+some_there k e = absurd (omega (arith, ap there e))
+
+pub no_transitional : (m : Mode) (t : ℕ) → mode_after m ≡ None → on_transitional m t ≡ none
+unfolding mode_after on_transitional
+no_transitional Non_prim t e = some_there _ e
+no_transitional Reg_prim t e = some_there _ e
 no_transitional Trans_prim t e = refl
-no_transitional Exchange_states t e = absurd (omega arith)
-no_transitional Exchange_actions t e = absurd (omega arith)
-no_transitional Construct t e = absurd (omega arith)
+no_transitional Exchange_states t e = some_there _ e
+no_transitional Exchange_actions t e = some_there _ e
+no_transitional Construct t e = some_there _ e
 no_transitional No t e = refl
 no_transitional Un t e = refl
 
-pub leads : (m : Mode) (t : ℕ) → (mode_after m ≡ 8 → ⊥) → (n : Mode) × (on_transitional m t ≡ some (leaving n t)) × (mode_after m ≡ mode_number n)
-unfolding mode_after on_transitional
-leads Non_prim t e = (Non_prim, refl, refl)
-leads Reg_prim t e = (Trans_prim, refl, refl)
-leads Trans_prim t e = absurd (e refl)
-leads Exchange_states t e = (Non_prim, refl, refl)
-leads Exchange_actions t e = (Non_prim, refl, refl)
-leads Construct t e = (No, refl, refl)
-leads No t e = absurd (e refl)
-leads Un t e = absurd (e refl)
+pub leads : (m : Mode) (t : ℕ) (k : Code) → mode_after m ≡ Some k → (n : Mode) × (on_transitional m t ≡ some (leaving n t)) × (mode_code k ≡ mode_number n)
+unfolding mode_after on_transitional mode_number
+leads Non_prim t k e = (Non_prim, refl, sym (ap code_in e))
+leads Reg_prim t k e = (Trans_prim, refl, sym (ap code_in e))
+leads Trans_prim t k e = none_there k e
+leads Exchange_states t k e = (Non_prim, refl, sym (ap code_in e))
+leads Exchange_actions t k e = (Non_prim, refl, sym (ap code_in e))
+leads Construct t k e = (No, refl, sym (ap code_in e))
+leads No t k e = none_there k e
+leads Un t k e = none_there k e

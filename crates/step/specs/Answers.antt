@@ -1,5 +1,6 @@
 -- What the code of a step answers, and what it may rely on.
-use Rattle.std.specs.Prelude.{ℕ, ◌≤◌, ◌<◌, ◌≡◌, Bool, true, false, List, Result as Fallible, Ok, Err}
+use Rattle.std.specs.Prelude.{ℕ, ◌≤◌, ◌<◌, ◌≡◌, true, List, Result as Fallible, Ok, Err}
+use Rattle.std.specs.Int.{from_bool}
 use Rattle.std.proofs.Math.Option.{Option, none, some}
 use Rattle.base.specs.Refusals.{quota_used, not_now, not_from_here}
 use Rattle.base.specs.Tests.{◌or◌, pick}
@@ -77,14 +78,9 @@ AnswersFor f r b o =
 abbrev pub refused_with : ℕ → Answer
 refused_with k = record { number = k; store = 0; sent = 0 }
 
--- The store word.
-abbrev pub store_word : Bool → ℕ
-store_word true = 1
-store_word false = 0
-
 -- What C is answered where an event is taken, ..
 abbrev pub taken_answer : Taken → Answer
-taken_answer t = record { number = 0; store = store_word t.store; sent = t.sent }
+taken_answer t = record { number = 0; store = from_bool t.store; sent = t.sent }
 
 -- .. and where it may be refused.
 abbrev pub answer_of : Fallible Taken Refusal → Answer

@@ -9,7 +9,7 @@ ghost use Rattle.step.specs.Events.{Next};
 use octets::numbers::num16;
 use queue::entering::enter;
 use queue::greening::green;
-use record::{ActionHead, State};
+use record::{ActionHead, ActionId, State};
 use updates::notes::note;
 use updates::yellow::join_yellow;
 
@@ -28,7 +28,13 @@ fn enter_yellow(state: &mut [u8], head: ActionHead, payload: &[u8])
     ensures { Becomes (yellowed (action_of head payload.now)) state.old state.new }
 {
     enter(state, head, payload);
-    join_yellow(state, head.creator, head.index);
+    join_yellow(
+        state,
+        ActionId {
+            creator: head.creator,
+            index: head.index,
+        },
+    );
 }
 
 // "as red, and its id joins the yellow list if it was entered"

@@ -21,12 +21,12 @@ use crate::joining::{join, join_unmarked, join_yellow};
 use crate::requests::request;
 use crate::sieve::{pass, pass_at};
 use guards::{
-    NO_MODE, after_transitional, cpc_in, is_member, is_of, numbered_own, quota_left, regular_due,
+    after_transitional, cpc_in, is_member, is_of, numbered_own, quota_left, regular_due,
     state_in, transitional_due,
 };
 use queue::counting::count_of;
 use queue::entering::red;
-use record::{ActionHead, State};
+use record::{ActionHead, ActionId, State};
 use refusals::Refusal;
 use updates::membership::leave;
 
@@ -55,20 +55,30 @@ fn colour(state: &mut [u8], mode: u8, head: ActionHead, payload: &[u8]) -> Taken
 fn takes_action(mode: u8) -> bool
     ensures { (m : Mode) (a : Action) → mode ≡ mode_number m → result ≡ is_there (on_action m a) }
 {
-    matches!(
-        mode,
-        State::NON_PRIM..=State::EXCHANGE_STATES | State::UN
-    )
+    match mode {
+        State::NON_PRIM..=State::EXCHANGE_STATES => true,
+        State::UN => true,
+        _ => false,
+    }
 }
 
-pub fn on_action(state: &mut [u8], h: State, head: ActionHead, payload: &[u8]) -> Result<Taken, Refusal>
+pub fn on_action(
+    state: &mut [u8],
+    h: State,
+    head: ActionHead,
+    payload: &[u8],
+) -> Result<Taken, Refusal>
     requires { HoldsSuch (InForce h (action (action_of head payload.now))) state.old }
     ensures { ActsAlone (action (action_of head payload.now)) (answer_of result) state }
 {
+    let id = ActionId {
+        creator: head.creator,
+        index: head.index,
+    };
     if !takes_action(h.mode) {
         return Err(Refusal::NotNow);
     }
-    if !numbered_own(h, head.creator, head.index) {
+    if !numbered_own(h, id) {
         return Err(Refusal::NotNow);
     }
     if !is_member(h, head.creator) {
@@ -86,7 +96,11 @@ pub fn on_action(state: &mut [u8], h: State, head: ActionHead, payload: &[u8]) -
 fn takes_retransmission(mode: u8) -> bool
     ensures { (m : Mode) (p : ℕ) (a : Action) → mode ≡ mode_number m → result ≡ is_there (on_retransmission m p a) }
 {
-    matches!(mode, State::NON_PRIM | State::EXCHANGE_ACTIONS)
+    match mode {
+        State::NON_PRIM => true,
+        State::EXCHANGE_ACTIONS => true,
+        _ => false,
+    }
 }
 
 pub fn on_retransmission(
@@ -101,10 +115,14 @@ pub fn on_retransmission(
     requires { LentSuch (InForce h (retransmission sender position (action_of head payload.now))) state.old out.old }
     ensures { Acts (retransmission sender position (action_of head payload.now)) (answer_of result) state out }
 {
+    let id = ActionId {
+        creator: head.creator,
+        index: head.index,
+    };
     if !takes_retransmission(h.mode) {
         return Err(Refusal::NotNow);
     }
-    if !numbered_own(h, head.creator, head.index) {
+    if !numbered_own(h, id) {
         return Err(Refusal::NotNow);
     }
     if !is_member(h, sender) {
@@ -124,11 +142,24 @@ fn state_from_member(h: State, k: u8, id: u32) -> bool
     requires { k < most_servers_limit }
     ensures { FromMember k id h result }
 {
-    is_member(h, k) && is_of(h, id) && !state_in(h, k)
+    if !is_member(h, k) {
+        return false;
+    }
+    if !is_of(h, id) {
+        return false;
+    }
+    !state_in(h, k)
 }
 
 // The State of server k in configuration `id`: the whole event.
-pub fn on_state(state: &mut [u8], out: &mut [u8], h: State, k: u8, id: u32, event: &[u8]) -> Result<Taken, Refusal>
+pub fn on_state(
+    state: &mut [u8],
+    out: &mut [u8],
+    h: State,
+    k: u8,
+    id: u32,
+    event: &[u8],
+) -> Result<Taken, Refusal>
     requires { LentSuch (StateInForce h k id event.now) state.old out.old }
     ensures { AnswersState k id event.now (answer_of result) state out }
 {
@@ -148,7 +179,12 @@ pub fn on_state(state: &mut [u8], out: &mut [u8], h: State, k: u8, id: u32, even
 fn takes_cpc(mode: u8) -> bool
     ensures { (m : Mode) (k : ℕ) → mode ≡ mode_number m → result ≡ is_there (on_cpc m k) }
 {
-    matches!(mode, State::NON_PRIM | State::CONSTRUCT | State::NO)
+    match mode {
+        State::NON_PRIM => true,
+        State::CONSTRUCT => true,
+        State::NO => true,
+        _ => false,
+    }
 }
 
 // Row 6 does not apply to the CPC of server k in configuration `id`.
@@ -156,7 +192,13 @@ fn cpc_from_member(h: State, k: u8, id: u32) -> bool
     requires { k < most_servers_limit }
     ensures { (s : Server) → h ≡ header_of s → result ≡ from_member s.membership (cpc k id) }
 {
-    is_member(h, k) && is_of(h, id) && !cpc_in(h, k)
+    if !is_member(h, k) {
+        return false;
+    }
+    if !is_of(h, id) {
+        return false;
+    }
+    !cpc_in(h, k)
 }
 
 pub fn on_cpc(state: &mut [u8], out: &mut [u8], h: State, k: u8, id: u32) -> Result<Taken, Refusal>
@@ -179,7 +221,13 @@ pub fn on_cpc(state: &mut [u8], out: &mut [u8], h: State, k: u8, id: u32) -> Res
     Ok(Taken::quiet())
 }
 
-pub fn on_regular(state: &mut [u8], out: &mut [u8], h: State, id: u32, set: u8) -> Result<Taken, Refusal>
+pub fn on_regular(
+    state: &mut [u8],
+    out: &mut [u8],
+    h: State,
+    id: u32,
+    set: u8,
+) -> Result<Taken, Refusal>
     requires { LentSuch (InForce h (regular id set)) state.old out.old }
     ensures { AnswersTo (regular id set) (answer_of result) state out }
 {
@@ -200,10 +248,9 @@ pub fn on_transitional(state: &mut [u8], h: State, set: u8) -> Result<Taken, Ref
     requires { HoldsSuch (InForce h (transitional set)) state.old }
     ensures { AnswersToAlone (transitional set) (answer_of result) state }
 {
-    let mode = after_transitional(h.mode);
-    if mode == NO_MODE {
+    let Some(mode) = after_transitional(h.mode) else {
         return Err(Refusal::NotNow);
-    }
+    };
     if !transitional_due(h) {
         return Err(Refusal::NotNow);
     }
@@ -211,7 +258,12 @@ pub fn on_transitional(state: &mut [u8], h: State, set: u8) -> Result<Taken, Ref
     Ok(Taken::quiet())
 }
 
-pub fn on_request(state: &mut [u8], out: &mut [u8], h: State, payload: &[u8]) -> Result<Taken, Refusal>
+pub fn on_request(
+    state: &mut [u8],
+    out: &mut [u8],
+    h: State,
+    payload: &[u8],
+) -> Result<Taken, Refusal>
     requires { LentSuch (InForce h (request_record payload.now)) state.old out.old }
     ensures { AnswersTo (request_record payload.now) (answer_of result) state out }
 {

@@ -23,7 +23,7 @@ use outgoing::resending::send_part;
 use queue::entering::red;
 use queue::greening::green;
 use queue::history::green_length;
-use record::ActionHead;
+use record::{ActionHead, Mode};
 use updates::exchanges::{attempt, decide, one_more, resend};
 use updates::membership::set_mode;
 use updates::states::collect_state;
@@ -113,7 +113,7 @@ fn after_states(state: &mut [u8], out: &mut [u8]) -> Taken
     if planned_now(state) != 0 {
         return await_actions(state, out);
     }
-    set_mode(state, record::State::NON_PRIM);
+    set_mode(state, Mode::NonPrim);
     end_exchange(state, out)
 }
 
@@ -164,7 +164,7 @@ fn close(state: &mut [u8])
     requires { HoldsSuch (λ s. s.membership.mode ≡ Exchange_actions) state.old }
     ensures { Becomes (λ s. one_more (in_mode Non_prim s)) state.old state.new }
 {
-    set_mode(state, record::State::NON_PRIM);
+    set_mode(state, Mode::NonPrim);
     one_more(state);
 }
 

@@ -1,6 +1,7 @@
 // Install, where the last CPC comes and where an action comes in Un.
 ghost use Rattle.std.specs.Prelude.{◌≡◌, ◌<◌};
 ghost use Rattle.format.specs.Limits.{most_index_limit};
+ghost use Rattle.record.specs.Codes.{mode_code};
 ghost use Rattle.record.specs.Values.{action_of};
 ghost use Rattle.replication.specs.Machine.Types.{Trans_prim, Construct, No, Un, in_mode, with_votes};
 ghost use Rattle.replication.specs.Machine.Install.{install_votes, install as installed};
@@ -19,13 +20,13 @@ use crate::requests::send_all;
 use crate::sieve::pass;
 use exchange::decided::all_cpcs_in;
 use install::installing::{install, install_log, install_votes};
-use record::{ActionHead, State};
+use record::{ActionHead, Mode};
 use updates::membership::{add_cpc, set_mode};
 
 // Install, and the state that it leads to; that one first, since row 8 bounds the primary index in Construct and Un.
-fn install_in(state: &mut [u8], mode: u8)
-    requires { HoldsSuch (Installs mode) state.old }
-    ensures { BecomesIn mode (λ m s. in_mode m (installed s)) state.old state.new }
+fn install_in(state: &mut [u8], mode: Mode)
+    requires { HoldsSuch (Installs (mode_code mode)) state.old }
+    ensures { BecomesIn (mode_code mode) (λ m s. in_mode m (installed s)) state.old state.new }
 {
     set_mode(state, mode);
     install(state);
@@ -36,7 +37,7 @@ fn end_install(state: &mut [u8])
     requires { HoldsSuch (Installs 2) state.old }
     ensures { Becomes (λ s. in_mode Trans_prim (with_votes (install_votes s.votes) s)) state.old state.new }
 {
-    set_mode(state, State::TRANS_PRIM);
+    set_mode(state, Mode::TransPrim);
     install_votes(state);
 }
 
@@ -56,7 +57,7 @@ fn install_all(state: &mut [u8], out: &mut [u8]) -> Taken
     requires { LentSuch (λ t. Configured t × (t.votes.last.index < most_index_limit)) state.old out.old }
     ensures { AnswersFor installing (taken_answer result) state out }
 {
-    install_in(state, State::REG_PRIM);
+    install_in(state, Mode::RegPrim);
     send_all(state, out)
 }
 
@@ -79,6 +80,6 @@ pub fn collect_late_cpc(state: &mut [u8], k: u8)
 {
     add_cpc(state, k);
     if all_cpcs_in(state) {
-        set_mode(state, State::UN);
+        set_mode(state, Mode::Un);
     }
 }

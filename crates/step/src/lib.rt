@@ -36,7 +36,7 @@ impl Answer {
         match outcome {
             Ok(taken) => Answer {
                 number: 0,
-                store: taken.store as u32,
+                store: u32::from(taken.store),
                 sent: taken.sent,
             },
             Err(refusal) => Answer {

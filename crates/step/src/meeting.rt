@@ -13,13 +13,17 @@ use image::header::load;
 use install::installing::install_log;
 use reader::read;
 use record::events::Event;
-use record::{ActionHead, State};
+use record::{ActionHead, ActionId, State};
 
 // In Un: rows 5 and 6 let the action pass.
 fn lets_pass(h: State, a: ActionHead) -> bool
     ensures { (s : Server) (p : List ℕ) → h ≡ header_of s → s.membership.mode ≡ Un → Meets result s (action (action_of a p)) }
 {
-    numbered_own(h, a.creator, a.index) && is_member(h, a.creator)
+    let id = ActionId {
+        creator: a.creator,
+        index: a.index,
+    };
+    numbered_own(h, id) && is_member(h, a.creator)
 }
 
 // In Un: the event does Install before anything else.

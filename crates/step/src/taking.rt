@@ -82,7 +82,13 @@ fn recovered(state: &mut [u8], h: State) -> Taken
 }
 
 // The event v, which was read from the bytes `event`, but for the raise.
-fn on_event(state: &mut [u8], out: &mut [u8], h: State, v: Event, event: &[u8]) -> Result<Taken, Refusal>
+fn on_event(
+    state: &mut [u8],
+    out: &mut [u8],
+    h: State,
+    v: Event,
+    event: &[u8],
+) -> Result<Taken, Refusal>
     requires { LentSuch (ReadInForce h v event.now) state.old out.old }
     ensures { Acts (record_of v event.now) (answer_of result) state out }
 {
@@ -113,7 +119,8 @@ fn is_ignored(mode: u8, v: Event) -> bool
     ensures { (m : Mode) (e : List ℕ) → mode ≡ mode_number m → result ≡ ignored_by (rule_for m (record_of v e)) }
 {
     match v {
-        Event::State(_) | Event::Cpc { .. } => mode == State::NON_PRIM,
+        Event::State(_) => mode == State::NON_PRIM,
+        Event::Cpc { .. } => mode == State::NON_PRIM,
         _ => false,
     }
 }

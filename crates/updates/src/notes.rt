@@ -13,7 +13,7 @@ ghost use Rattle.updates.specs.Lists.{NumberIn};
 ghost use Rattle.updates.specs.Noting.{sent_length, noted_slot};
 
 use crate::states::state_place;
-use image::places::{THE_NOTED, place_of};
+use image::places::{Section, place_of};
 use octets::numbers::{num8, num32, put32};
 use record::State;
 use record::events::StateHead;
@@ -24,7 +24,7 @@ pub fn note(state: &mut [u8], c: u8, l: u32)
     requires { NumberIn c state.old }
     ensures { Becomes (λ s. with_noted (noted c l s.noted) s) state.old state.new }
 {
-    let at = place_of(state, THE_NOTED) + State::NOTED * c as usize;
+    let at = place_of(state, Section::Noted) + State::NOTED * c as usize;
     if num32(state, at) < l {
         put32(state, at, l);
     }
@@ -35,7 +35,7 @@ pub fn least_noted(state: &[u8]) -> u32
     requires { HoldsSome state.now }
     ensures { Computes (λ s. least s.noted) state.now result }
 {
-    let at = place_of(state, THE_NOTED);
+    let at = place_of(state, Section::Noted);
     let servers = num8(state, State::AT_SERVERS) as usize;
     let mut low = num32(state, at);
     for k in 1..servers {

@@ -12,7 +12,7 @@ ghost use Rattle.image.specs.Layout.{header_size};
 ghost use Rattle.updates.specs.Lists.{queue_counts};
 
 use crate::numbers::change;
-use image::places::{THE_OWN, THE_QUEUE, place_of};
+use image::places::{Section, place_of};
 use octets::blocks::copy_up;
 use octets::numbers::{num8, num16, num32, put16, put32};
 use record::{ActionHead, Mode, State};
@@ -22,7 +22,7 @@ pub fn highest_white(state: &[u8]) -> u32
     requires { HoldsSome state.now }
     ensures { Computes (λ s. highest_white s.log.own) state.now result }
 {
-    let at = place_of(state, THE_OWN);
+    let at = place_of(state, Section::Own);
     let own = num16(state, State::AT_OWN_COUNT) as usize;
     let mut high: u32 = 0;
     for k in 0..own {
@@ -56,8 +56,8 @@ fn enter_own(state: &mut [u8])
 {
     let own = num16(state, State::AT_OWN_COUNT);
     let queue = num32(state, State::AT_QUEUE_LENGTH);
-    let from = place_of(state, THE_OWN);
-    let to = place_of(state, THE_QUEUE);
+    let from = place_of(state, Section::Own);
+    let to = place_of(state, Section::Queue);
     let at = State::SIZE + State::CUT * num8(state, State::AT_ME) as usize;
     let numbered = num16(state, State::AT_NUMBERED);
     copy_up(

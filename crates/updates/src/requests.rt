@@ -8,7 +8,7 @@ ghost use Rattle.updates.specs.Lists.{PayloadRoom, SlotRoom, next_head, own_coun
 ghost use Rattle.queue.specs.Queue.{slot_put};
 
 use crate::numbers::change;
-use image::places::{THE_OWN, place_of};
+use image::places::{Section, place_of};
 use octets::numbers::{num8, num16, put16};
 use queue::history::{green_length, white_length};
 use queue::slots::put_slot;
@@ -49,7 +49,7 @@ pub fn number(state: &mut [u8], payload: &[u8])
     requires { PayloadRoom payload.now state.old }
     ensures { BecomesWhere MayNumber (with_numbered payload.now) state.old state.new }
 {
-    let at = place_of(state, THE_OWN);
+    let at = place_of(state, Section::Own);
     let own = num16(state, State::AT_OWN_COUNT);
     let numbered = num16(state, State::AT_NUMBERED);
     let head = next_head(state);

@@ -7,7 +7,8 @@ ghost use Rattle.format.specs.Limits.{most_servers_limit};
 ghost use Rattle.image.specs.Layout.{header_size, at_states};
 ghost use Rattle.updates.specs.Lists.{state_place, NumberIn, CollectRoom, BecomesCollected};
 
-use image::places::{THE_STATES, place_of, state_size};
+use image::places::{Section, place_of};
+use image::sizes::Sizes;
 use octets::blocks::copy;
 use octets::numbers::{num8, num16, put8};
 use record::range::product;
@@ -18,9 +19,11 @@ pub fn state_place(state: &[u8], k: u8) -> usize
     requires { NumberIn k state.now }
     ensures { result ≡ state_place k state.now }
 {
-    let n = num8(state, record::State::AT_SERVERS) as u32;
-    let q = num16(state, record::State::AT_QUOTA) as u32;
-    place_of(state, THE_STATES) + product(k as u32, state_size(n, q)) as usize
+    let sizes = Sizes {
+        servers: num8(state, record::State::AT_SERVERS) as u32,
+        quota: num16(state, record::State::AT_QUOTA) as u32,
+    };
+    place_of(state, Section::States) + product(k as u32, sizes.state_size()) as usize
 }
 
 // The set of senders, with server k.

@@ -10,7 +10,7 @@ ghost use Rattle.image.specs.Layout.{header_size};
 
 use crate::numbers::change;
 use image::header::{load, save};
-use image::places::{THE_YELLOW, place_of};
+use image::places::{Section, place_of};
 use octets::blocks::copy;
 use record::{AttemptIndex, LastPrimary, Mark, PrimaryIndex, State};
 
@@ -67,13 +67,14 @@ fn with_votes(h: State, v: VoteNumbers) -> State
 }
 
 // Other votes: their numbers, and the bytes of the yellow ids.
+// Stays: (d) written by load and save, since the yellow ids change too, of which `change` says nothing.
 pub fn take_votes(state: &mut [u8], v: VoteNumbers, ids: &[u8])
     requires { YellowRoom ids.now state.old }
     ensures { BecomesVoted v ids.now state.old state.new }
 {
     let h = load(state);
     let t = with_votes(h, v);
-    let at = place_of(state, THE_YELLOW);
+    let at = place_of(state, Section::Yellow);
     copy(state, at, ids);
     save(state, t);
 }

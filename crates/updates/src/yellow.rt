@@ -9,7 +9,7 @@ ghost use Rattle.image.specs.Layout.{header_size};
 ghost use Rattle.image.specs.Counts.{yellow_count, most_actions, CountsIn};
 ghost use Rattle.updates.specs.Lists.{id_added, BecomesYellow};
 
-use image::places::{THE_YELLOW, place_of};
+use image::places::{Section, place_of};
 use octets::numbers::{num8, num16, put16};
 use record::range::product;
 use record::{ActionId, State};
@@ -33,7 +33,7 @@ fn add_id(state: &mut [u8], at: usize, count: u16, id: ActionId)
     requires { (header_size ≤ length state.old) × (at + id_size ≤ length state.old) × (count ≤ most_ids) }
     ensures { state.new ≡ id_added at (count + 1) (the_id id) state.old }
 {
-    put_id(state, at, id.creator, id.index);
+    put_id(state, at, id);
     put16(state, State::AT_YELLOW_COUNT, count + 1);
 }
 
@@ -42,7 +42,7 @@ fn join_with_room(state: &mut [u8], id: ActionId)
     requires { CountsIn state.old × (yellow_count state.old < most_actions state.old) }
     ensures { BecomesYellow (the_id id) state.old state.new }
 {
-    let at = place_of(state, THE_YELLOW);
+    let at = place_of(state, Section::Yellow);
     let count = num16(state, State::AT_YELLOW_COUNT);
     if has_id(state, at, count as usize, id) {
         return;

@@ -12,6 +12,7 @@ use record::LastPrimary;
 use record::sets::has;
 
 // The lowest-numbered member of the set; 8, which is no server, where it is empty.
+// Stays: 8 in place of none (d): it is std's `trailing_zeros` itself, and `has` answers no to it.
 fn lowest_member(set: u8) -> usize
     ensures { result ≡ lowest_member most_servers_limit set }
 {

@@ -1,9 +1,10 @@
 use Rattle.burst.proofs.BurstCode.{burst_refused, burst_ready}
+use Rattle.step.proofs.ReadingLaws.{above_zero}
 use borrow.Author.Rules.{rules}
 use Rattle.burst.proofs.burst.Goals as goal
 
-pub returns-then-number-eq0 : goal.returns-then-number-eq0
-returns-then-number-eq0 c = search (rules, burst_ready)
+pub returns-in-Ok : goal.returns-in-Ok
+returns-in-Ok c = search (rules, burst_ready)
 
-pub returns : goal.returns
-returns c = search (rules, burst_refused)
+pub returns-in-Err : goal.returns-in-Err
+returns-in-Err c = search (rules, burst_refused, above_zero)

@@ -1,10 +1,9 @@
-use Rattle.base.proofs.TestLaws.{tests}
-use Rattle.base.proofs.Branches.{told}
+use Rattle.burst.proofs.BurstCode.{silent_yes, silent_no}
 use borrow.Author.Rules.{rules}
 use Rattle.burst.proofs.is_silent.Goals as goal
 
-pub returns-then-a-eq0 : goal.returns-then-a-eq0
-returns-then-a-eq0 c = search (rules, tests, told)
+pub returns-then-not-t : goal.returns-then-not-t
+returns-then-not-t c = search (rules, silent_yes)
 
-pub returns : goal.returns
-returns c = search (rules, tests, told)
+pub returns-else-not-t : goal.returns-else-not-t
+returns-else-not-t c = search (rules, silent_no)

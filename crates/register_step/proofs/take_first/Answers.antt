@@ -1,15 +1,19 @@
 use Rattle.register_step.proofs.BurstCode.{first_stops, first_size_lem, first_refused, first_taken}
+use Rattle.register_check.proofs.Found.{refusal_some}
 use borrow.Author.Rules.{rules}
 use Rattle.register_step.proofs.take_first.Goals as goal
 
-pub returns-in_default : goal.returns-in_default
-returns-in_default c = search (rules, first_stops)
+pub returns-in-Ok-None : goal.returns-in-Ok-None
+returns-in-Ok-None c = search (rules, first_stops)
+
+pub returns-in-Err : goal.returns-in-Err
+returns-in-Err c = search (rules, first_stops)
 
 pub slice_bounds-take_event-end : goal.slice_bounds-take_event-end
 slice_bounds-take_event-end c = search (rules, first_size_lem)
 
-pub returns-then-a-ne0 : goal.returns-then-a-ne0
-returns-then-a-ne0 c = search (rules, first_refused)
+pub returns-in-Err-2 : goal.returns-in-Err-2
+returns-in-Err-2 c = search (rules, first_refused, refusal_some)
 
-pub returns : goal.returns
-returns c = search (rules, first_taken)
+pub returns-in-Ok : goal.returns-in-Ok
+returns-in-Ok c = search (rules, first_taken)

@@ -1,5 +1,4 @@
 use Rattle.exchange.proofs.DecidedLaws.{planned_told}
-use borrow.Author.Rules.{rules}
 use Rattle.exchange.proofs.decided.planned_now.Goals as goal
 
 pub returns : goal.returns

@@ -1,7 +1,6 @@
 use native.Mathlib.Omega.{arith}
 use Rattle.image.proofs.InPlace.{such_header}
 use Rattle.exchange.proofs.DecidedLaws.{room_held, quorum_held, quorum_told}
-use borrow.Author.Rules.{rules}
 use Rattle.exchange.proofs.decided.quorum_here.Goals as goal
 
 pub new-judging-requires : goal.new-judging-requires

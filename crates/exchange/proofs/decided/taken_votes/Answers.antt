@@ -1,7 +1,6 @@
 use native.Mathlib.Omega.{arith}
 use Rattle.image.proofs.InPlace.{such_header}
 use Rattle.exchange.proofs.DecidedLaws.{room_held, taken_held, own_held, votes_told}
-use borrow.Author.Rules.{rules}
 use Rattle.exchange.proofs.decided.taken_votes.Goals as goal
 
 pub num8-me-requires : goal.num8-me-requires

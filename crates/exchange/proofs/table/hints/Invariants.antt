@@ -1,4 +1,3 @@
-use Prim.Native.Nat.{◌-◌}
 use Rattle.record.specs.Context.{context_of}
 use Rattle.exchange.proofs.HintLaws.{Hints}
 use Rattle.exchange.proofs.table.hints.Given as goal

@@ -10,4 +10,4 @@ returns-in-Some c =
 
 pub returns-in-None : goal.returns-in-None
 returns-in-None c =
-    (omega arith, omega arith, turned_to_end _ _ c.requires.0 _ _ _ (next_as None _ _ _ _ _ c.in-None.ensures c.reds.ensures.state c.reds.ensures.first) (omega arith))
+    turned_to_end _ _ c.requires.0 _ _ _ (next_as None _ _ _ _ _ c.in-None.ensures c.reds.ensures.state c.reds.ensures.first) (omega arith)

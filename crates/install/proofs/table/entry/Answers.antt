@@ -4,4 +4,4 @@ use Rattle.install.proofs.table.entry.Goals as goal
 
 pub returns : goal.returns
 unfolding slot id_of
-returns c = (omega arith, omega arith)
+returns c = (c.slot.ensures, omega (arith, c.slot.ensures))

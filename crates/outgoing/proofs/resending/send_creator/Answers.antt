@@ -24,7 +24,11 @@ overflow_add-sent c = search (rules, sent_fits)
 pub loop-i-preserved : goal.loop-i-preserved
 loop-i-preserved c =
     let n = c.in-Some.ensures in
-    (omega (arith, n.over), omega (arith, n.over, n.most), red_again _ _ _ _ _ _ _ _ _ (omega arith) c.loop-i.invariant.2 _ n _ c.from-i.ensures _ _ (search rules))
+    (
+      omega (arith, n.over),
+      omega (arith, n.over, n.most),
+      search (rules, red_again _ _ _ _ _ _ _ _ _ (omega arith) c.loop-i.invariant.2 _ n _ c.from-i.ensures),
+    )
 
 pub returns-after-loop-i : goal.returns-after-loop-i
 returns-after-loop-i c = search (rules, walk_end)

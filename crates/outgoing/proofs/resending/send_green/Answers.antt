@@ -2,11 +2,11 @@ use Rattle.outgoing.proofs.PlanLaws.{stated_some, green_none, positions_in, gree
 use borrow.Author.Rules.{rules}
 use Rattle.outgoing.proofs.resending.send_green.Goals as goal
 
-pub resends_green-part-requires : goal.resends_green-part-requires
-resends_green-part-requires c = search (rules, stated_some)
+pub resends_green-requires : goal.resends_green-requires
+resends_green-requires c = search (rules, stated_some)
 
-pub returns-then-not-part : goal.returns-then-not-part
-returns-then-not-part c = search (rules, green_none)
+pub returns-in_default : goal.returns-in_default
+returns-in_default c = search (rules, green_none)
 
 pub send_positions-requires : goal.send_positions-requires
 send_positions-requires c = (search (rules, positions_in), search (rules, green_room))

@@ -5,8 +5,8 @@ use mathlib.Core.Path.{ap}
 use mathlib.Core.Bool.{not}
 use Rattle.step.proofs.events.on_transitional.Goals as goal
 
-pub returns-then-mode-eq-NO_MODE : goal.returns-then-mode-eq-NO_MODE
-returns-then-mode-eq-NO_MODE c = search (rules, transitional_untaken)
+pub returns-in_default : goal.returns-in_default
+returns-in_default c = search (rules, transitional_untaken)
 
 pub returns-then-not-transitional_due : goal.returns-then-not-transitional_due
 returns-then-not-transitional_due c = search (rules, transitional_second)
@@ -15,4 +15,4 @@ pub leave-requires : goal.leave-requires
 leave-requires c = search (rules, such_header)
 
 pub returns : goal.returns
-returns c = transitional_left _ _ _ c.requires _ c.after_transitional-mode.ensures _ c.transitional_due.ensures c.if-mode-eq-NO_MODE.false (ap not c.if-not-transitional_due.false) _ _ c.leave.ensures c.quiet.ensures
+returns c = transitional_left _ _ _ c.requires _ c.after_transitional.ensures _ c.transitional_due.ensures _ c.in-Some.is (ap not c.if-not-transitional_due.false) _ _ c.leave.ensures c.quiet.ensures

@@ -1,7 +1,6 @@
-use mathlib.Core.Path.{ap, sym, ◌∙◌}
 use borrow.Author.Rules.{rules}
 use Rattle.base.specs.Tests.{◌=?◌}
-use Rattle.exchange.specs.Folds.{Tells, Found}
+use Rattle.exchange.specs.Folds.{Tells}
 use Rattle.exchange.proofs.JudgedLaws.{own_cleared, own_judged, sender_told}
 use Rattle.exchange.proofs.judging.Judging.own_mark.Goals as goal
 

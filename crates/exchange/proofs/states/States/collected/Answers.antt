@@ -1,4 +1,3 @@
-use mathlib.Core.Path.{sym}
 use borrow.Author.Rules.{rules}
 use Rattle.exchange.proofs.RoomLaws.{slots_made, space_made}
 use Rattle.exchange.proofs.states.States.collected.Goals as goal

@@ -1,4 +1,3 @@
-use borrow.Author.Rules.{rules}
 use Rattle.exchange.proofs.PrimaryLaws.{pair_not, pair_told}
 use Rattle.exchange.proofs.states.States.has_pair.Goals as goal
 

@@ -1,6 +1,5 @@
 use Rattle.exchange.proofs.PlanLaws.{missing_made}
 use mathlib.Core.Path.{◌∙◌}
-use native.Mathlib.Omega.{arith}
 use Rattle.exchange.proofs.states.States.missing.Goals as goal
 
 pub returns : goal.returns

@@ -1,4 +1,3 @@
-use borrow.Author.Rules.{rules}
 use Rattle.exchange.proofs.YellowLaws.{status_none, status_some}
 use Rattle.exchange.proofs.states.States.yellow_status.Goals as goal
 
