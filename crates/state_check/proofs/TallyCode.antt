@@ -7,13 +7,13 @@ use native.Mathlib.Nat.{mul-le-mul}
 use native.Mathlib.Omega.{arith}
 use mir.Syntax.{w16}
 use mir.Val.{Fits}
-use lib.ListN.{length, get_or, set, replicate, length-set, length-replicate}
+use lib.ListN.{length, get_or, set, length-set}
 use lib.Seq.{get_or-set_same, get_or-set_other}
 use Rattle.base.specs.Tests.{◌≤?◌, ◌=?◌, pick}
 use Rattle.base.proofs.TestLaws.{and_holds, and_yes, and_no, eq_holds, eq_fails, eq_yes, eq_no, le_yes, le_no, le_holds, Known, known, holds, fails}
 use Rattle.base.specs.Bytes.{number_at}
 use Rattle.base.specs.Lists.{every_at, Each}
-use Rattle.base.proofs.ListLaws.{replicate_at, each_implied}
+use Rattle.base.proofs.ListLaws.{each_implied}
 use Rattle.base.proofs.Entries.{every_again, every_denied, every_end, every_each, each_every}
 use Rattle.base.proofs.Branches.{same_truth}
 use Rattle.format.specs.Limits.{most_servers_limit, most_ids}
@@ -72,21 +72,9 @@ pub record Counted (m : ℕ) (b : List ℕ) (at left here : ℕ) (t : List ℕ) 
   pub long : length t ≡ most_servers_limit
   pub counts : (k : ℕ) → k < most_servers_limit → get_or t k 0 + of_creator k (actions_at left b here) ≡ of_creator k (actions_at m b at)
 
-counted_start : (m : ℕ) (b : List ℕ) (at : ℕ) → TallyRoom m b at → Counted m b at m at (replicate {A = ℕ} most_servers_limit 0)
-counted_start m b at r = record {
-  few = r.few;
-  inside = r.inside;
-  creators = r.creators;
-  long = length-replicate {A = ℕ} most_servers_limit 0;
-  counts = λ k l. omega (arith, replicate_at {A = ℕ} 0 most_servers_limit k);
-}
-
 module _ (m : ℕ) (b : List ℕ) (at left here : ℕ) (t : List ℕ) (r : Counted m b at left here t) (h : 0 < left) where
   behind : (l : List Action) → actions_at left b here ≡ l → Each (λ a. a.id.creator < most_servers_limit) l
   behind l e = subst (Each (λ a. a.id.creator < most_servers_limit)) e r.creators
-
-  counted_first : here + 1 ≤ length b
-  counted_first = omega (arith, r.inside)
 
   counted_creator : (x : ℕ) → x ≡ number_at 1 b here → x < most_servers_limit
   unfolding action_at id_at
@@ -115,23 +103,10 @@ module _ (m : ℕ) (b : List ℕ) (at left here : ℕ) (t : List ℕ) (r : Count
 
 -- k of them were counted.
 module _ (m : ℕ) (b : List ℕ) (at : ℕ) where
-  pub tally_start : TallyRoom m b at → Counted m b at (m - 0) (at + slot_size * 0) (replicate {A = ℕ} most_servers_limit 0)
-  tally_start r =
-      let x : m ≡ m - 0 = omega arith in
-      let y : at ≡ at + slot_size * 0 = omega arith in
-      subst (λ (n : ℕ). Counted m b at n (at + slot_size * 0) (replicate {A = ℕ} most_servers_limit 0)) x
-      (subst (λ (n : ℕ). Counted m b at m n (replicate {A = ℕ} most_servers_limit 0)) y (counted_start m b at r))
-
   module _ (k : ℕ) (t : List ℕ) (r : Counted m b at (m - k) (at + slot_size * k) t) (h : k < m) where
-    pub tally_first : at + slot_size * k + 1 ≤ length b
-    tally_first = counted_first m b at (m - k) (at + slot_size * k) t r (omega arith)
-
     module _ (x : ℕ) (e : x ≡ number_at 1 b (at + slot_size * k)) where
       pub tally_creator : x < most_servers_limit
       tally_creator = counted_creator m b at (m - k) (at + slot_size * k) t r (omega arith) x e
-
-      pub tally_inside : x < length t
-      tally_inside = omega (arith, tally_creator, r.long)
 
       pub tally_more : Fits w16 (get_or t x 0 + 1)
       tally_more = counted_room m b at (m - k) (at + slot_size * k) t r (omega arith) x e
@@ -155,9 +130,6 @@ tally_end m b at k t r h = counted_end m b at (m - k) (at + slot_size * k) t r (
 
 abbrev within : (q : ℕ) (t : List ℕ) → ℕ → Bool
 within q t k = get_or t k 0 ≤? q
-
-pub fits_start : (n q : ℕ) (t : List ℕ) → tally_fits q t n 0 ≡ tally_fits q t (n - 0) 0
-fits_start n q t = let e : n ≡ n - 0 = omega arith in ap (λ (m : ℕ). tally_fits q t m 0) e
 
 module _ (n q : ℕ) (t : List ℕ) (k : ℕ) (v : Bool) (e : v ≡ tally_fits q t (n - k) k) where
   pub fits_denied : k < n → q < get_or t k 0 → false ≡ v
