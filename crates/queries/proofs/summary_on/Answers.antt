@@ -12,13 +12,13 @@ pub load-requires : goal.load-requires
 load-requires c = search (rules, summary_header)
 
 pub green_length-requires : goal.green_length-requires
-green_length-requires c = search (rules, summary_queue)
+green_length-requires c = let e = c.in-Ok.ensures in search (rules, summary_queue)
 
 pub white_length-requires : goal.white_length-requires
-white_length-requires c = search (rules, summary_queue)
+white_length-requires c = let e = c.in-Ok.ensures in search (rules, summary_queue)
 
 pub of-requires : goal.of-requires
 of-requires c = search (rules, summary_counts, summary_sent)
 
 pub returns-in-Ok : goal.returns-in-Ok
-returns-in-Ok c = search (rules, summary_read)
+returns-in-Ok c = let e = c.in-Ok.ensures in search (rules, summary_read)
