@@ -89,20 +89,11 @@ fn request<W: Write>(out: &mut W, e: &[u8], at: usize, m: usize) -> Result<()>
     payload(out, e, at, m)
 }
 
-// An event that was read, and the bytes in which its lists lie.
-#[derive(Clone, Copy, Drop)]
-pub struct ReadEvent<'a> {
-    pub context: Context,
-    pub event: Event,
-    pub bytes: &'a [u8],
-    ghost placed: { PlacedEvent context event bytes.now },
-}
-
-impl ReadEvent<'_> {
-    pub fn print<W: Write>(&self, out: &mut W) -> Result<()> {
-        let c = self.context;
-        let e = self.bytes;
-        match self.event {
+// Stays: c, v and e stay parameters, since `PlacedEvent` is not a proposition as a ghost field has to be (c).
+pub fn event<W: Write>(out: &mut W, c: Context, v: Event, e: &[u8]) -> Result<()>
+    requires { PlacedEvent c v e.now }
+{
+    match v {
             Event::Action(a) => action(out, c, a, e),
             Event::Retransmission {
                 sender,
@@ -122,5 +113,4 @@ impl ReadEvent<'_> {
             } => request(out, e, payload_at, payload_length),
             Event::Recovery => write!(out, "recovery"),
         }
-    }
 }

@@ -1,7 +1,7 @@
 // What was read, written again: into a buffer with exactly enough room for one record or for two, and with one byte too few.
-ghost use Rattle.reader.specs.Reading.{PlacedAction, PlacedRetransmission, PlacedState};
+ghost use Rattle.reader.specs.Reading.{PlacedEvent, PlacedAction, PlacedRetransmission, PlacedState};
 
-use crate::reading::ReadEvent;
+use crate::reading;
 use reader::Reading;
 use record::Context;
 use record::events::{ActionAt, Event, StateAt};
@@ -40,15 +40,17 @@ fn state(c: Context, s: StateAt, e: &[u8], room: &mut [u8]) -> Written
 }
 
 // Writes the event at the front of the room; an event of a kind that the engine does not send is not written.
-fn again(v: &ReadEvent<'_>, room: &mut [u8]) -> Written {
-    match v.event {
-        Event::Action(a) => action(v.context, a, v.bytes, room),
+fn again(c: Context, v: Event, e: &[u8], room: &mut [u8]) -> Written
+    requires { PlacedEvent c v e.now }
+{
+    match v {
+        Event::Action(a) => action(c, a, e, room),
         Event::Retransmission {
             sender,
             position,
             action,
-        } => retransmission(v.context, sender, position, action, v.bytes, room),
-        Event::State(s) => state(v.context, s, v.bytes, room),
+        } => retransmission(c, sender, position, action, e, room),
+        Event::State(s) => state(c, s, e, room),
         Event::Cpc {
             sender,
             configuration,
@@ -59,21 +61,18 @@ fn again(v: &ReadEvent<'_>, room: &mut [u8]) -> Written {
 
 pub fn say<W: Write>(out: &mut W, c: Context, e: &[u8]) -> Result<()> {
     match reader::read(c, e) {
-        Reading::Good(event) => ReadEvent {
-            context: c,
-            event,
-            bytes: e,
-        }
-        .print(out),
+        Reading::Good(v) => reading::event(out, c, v, e),
         Reading::Refused(number) => write!(out, "refused {number}"),
     }
 }
 
 // Writes the event three times, each behind the one before, as long as there is room.
-fn fill<W: Write>(out: &mut W, v: &ReadEvent<'_>, room: &mut [u8]) -> Result<()> {
+fn fill<W: Write>(out: &mut W, c: Context, v: Event, e: &[u8], room: &mut [u8]) -> Result<()>
+    requires { PlacedEvent c v e.now }
+{
     let mut at = 0;
     for _k in 0..3 {
-        let Written::Next(size) = again(v, &mut room[at..]) else {
+        let Written::Next(size) = again(c, v, e, &mut room[at..]) else {
             return write!(out, " full");
         };
         if room.len() - at < size {
@@ -81,19 +80,21 @@ fn fill<W: Write>(out: &mut W, v: &ReadEvent<'_>, room: &mut [u8]) -> Result<()>
         }
         let next = at + size;
         write!(out, " next {next} ")?;
-        say(out, v.context, &room[at..next])?;
+        say(out, c, &room[at..next])?;
         at = next;
     }
     Ok(())
 }
 
 // Fills a buffer of this size, which held 238 everywhere.
-fn sized<W: Write>(out: &mut W, v: &ReadEvent<'_>, size: usize) -> Result<()> {
+fn sized<W: Write>(out: &mut W, c: Context, v: Event, e: &[u8], size: usize) -> Result<()>
+    requires { PlacedEvent c v e.now }
+{
     let mut space: [u8; 16384] = [238; 16384];
     if size <= space.len() {
         let room = &mut space[..size];
         write!(out, "  room {size}")?;
-        fill(out, v, room)?;
+        fill(out, c, v, e, room)?;
         writeln!(out, "{}", Bytes(room))?;
     }
     Ok(())
@@ -102,17 +103,12 @@ fn sized<W: Write>(out: &mut W, v: &ReadEvent<'_>, size: usize) -> Result<()> {
 // The same for each of the four sizes.
 pub fn write<W: Write>(out: &mut W, c: Context, e: &[u8]) -> Result<()> {
     let n = e.len();
-    if let Reading::Good(event) = reader::read(c, e)
+    if let Reading::Good(v) = reader::read(c, e)
         && 1 <= n
         && n <= 8192
     {
-        let v = ReadEvent {
-            context: c,
-            event,
-            bytes: e,
-        };
         for size in [n - 1, n, 2 * n - 1, 2 * n] {
-            sized(out, &v, size)?;
+            sized(out, c, v, e, size)?;
         }
     }
     Ok(())
