@@ -1,7 +1,7 @@
 -- The joint step, as the code makes it.
 use Prim.Native.Nat.{ℕ, ◌+◌, ◌^◌, ◌≤◌, ◌<◌}
 use mathlib.Core.Path.{◌≡◌, refl, sym, ap, subst, ◌∙◌}
-use mathlib.Core.Bool.{Bool, true, false}
+use mathlib.Core.Bool.{Bool}
 use mathlib.Core.List.{List, [], ◌++◌, map-append}
 use native.Mathlib.Omega.{arith}
 use lib.ListN.{length, drop, length-append, length-drop}
@@ -27,8 +27,7 @@ use Rattle.pegs.specs.Image.{pegs_in}
 use Rattle.pegs.specs.Outcome.{register_number, applied_all}
 use Rattle.pegs.proofs.Advance.{refusals_append, applied_all_append}
 use Rattle.step.specs.declared.Answer.{Answer}
-use Rattle.step.specs.Answers.{answered, store_word, refused_with as refused_as}
-use Rattle.std.specs.Int.{from_bool}
+use Rattle.step.specs.Answers.{answered, refused_with as refused_as}
 use Rattle.refusals.specs.declared.Refusal.{Refusal}
 use Rattle.refusals.specs.Numbers.{refusal_number}
 use Rattle.register_check.proofs.Found.{refusal_some}
@@ -51,11 +50,6 @@ pub answer_refused : (b r e o : List ℕ) (f : Refusal) → refusal_number f ≡
 unfolding joint_on joined unjoined
 answer_refused b r e o f q =
     pick_ne (joint_number b r o) 0 (unjoined (refusal_number f) b r o) _ _ (λ z. refusal_some f (q ∙ z)) (ap (λ (j : ℕ). unjoined j b r o) q)
-
--- As the code has a store word.
-pub store_told : (t : Bool) → from_bool t ≡ store_word t
-store_told true = refl
-store_told false = refl
 
 -- Nothing carried on.
 carried_none : (r : List ℕ) → carried [] r ≡ r

@@ -1,5 +1,5 @@
 use mathlib.Core.Path.{refl}
-use Rattle.register_step.proofs.StepLaws.{ready_some, ready_register, event_queue, event_number, event_raises, event_refused, event_ready, greened_few, refused_few, event_done, store_told}
+use Rattle.register_step.proofs.StepLaws.{ready_some, ready_register, event_queue, event_number, event_raises, event_refused, event_ready, greened_few, refused_few, event_done}
 use borrow.Author.Rules.{rules}
 use Rattle.register_step.proofs.take_event.Goals as goal
 
@@ -38,4 +38,4 @@ shape_of-out c = search (rules, c.act)
 
 pub returns-clause-joint : goal.returns-clause-joint
 returns-clause-joint c = 
-    event_done _ _ _ c.requires _ _ _ _ c.carry_met-first.ensures _ _ _ _ c.in_ok-a.ensures _ c.green_length-from.ensures.value.0 _ _ (c.carry-rest.ensures.register_after, c.carry-rest.ensures.carries_on) _ _ (search (rules, store_told)) refl c.raise.ensures
+    event_done _ _ _ c.requires _ _ _ _ c.carry_met-first.ensures _ _ _ _ c.in_ok-a.ensures _ c.green_length-from.ensures.value.0 _ _ (c.carry-rest.ensures.register_after, c.carry-rest.ensures.carries_on) _ _ (search rules) refl c.raise.ensures
