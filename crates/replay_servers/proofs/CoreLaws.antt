@@ -18,7 +18,8 @@ use Rattle.daemons.proofs.SendingLaws.{cut_short_lem, cut_next}
 use Rattle.step.specs.declared.Answer.{Answer}
 use Rattle.step.specs.Answers.{answered}
 use Rattle.replay_servers.specs.declared.Server.{Server}
-use Rattle.replay_servers.specs.Core.{Stepped, out_room, buffers_of, entry_after, records_in, after_step, core_of, Alters}
+use Rattle.replay_servers.specs.declared.Stepped.{Stepped}
+use Rattle.replay_servers.specs.Core.{out_room, buffers_of, entry_after, records_in, after_step, core_of}
 
 -- ---- records counted by their length bytes
 
@@ -78,14 +79,13 @@ module _ (s : Server) (number store : ℕ) (b : List ℕ) where
       pick_eq number 0 (record { state = b; store = s.store }) _ _ h
       (ap (λ (l : List ℕ). record { state = b; store = l }) (pick_ne store 1 s.store b s.store g refl))
 
--- ---- the event
+-- ---- the core
 
-pub taken : (s v : Server) (e b b₁ o o₁ : List ℕ) (a : Answer) (n : ℕ) → b ≡ source_in (buffers_of s) e → o ≡ zeros out_room
+pub core_made : (s v : Server) (e b b₁ o o₁ : List ℕ) (a : Answer) (n : ℕ) → b ≡ source_in (buffers_of s) e → o ≡ zeros out_room
     → answered a b₁ o₁ ≡ step_on b e o → v ≡ entry_after s a.number a.store b₁ → n ≡ records_in (take a.sent o₁)
-    → Alters s e v (record { number = a.number; sent = n })
+    → record { server = v; reply = record { number = a.number; sent = n } } ≡ core_of s e
 unfolding core_of step_in after_step answered
-taken s v e b b₁ o o₁ a n f z h g r =
+core_made s v e b b₁ o o₁ a n f z h g r =
     let left : ◌≡◌ {A = Stepped} (record { server = v; reply = record { number = a.number; sent = n } }) (after_step s (answered a b₁ o₁))
     = λ i. record { server = g i; reply = record { number = a.number; sent = r i } } in
-    let whole = left ∙ ap (after_step s) (h ∙ ap₂ {A = List ℕ} {B = List ℕ} {C = Result} (λ x y. step_on x e y) f z) in
-    (ap (λ (x : Stepped). x.reply) whole, ap (λ (x : Stepped). x.server) whole)
+    left ∙ ap (after_step s) (h ∙ ap₂ {A = List ℕ} {B = List ℕ} {C = Result} (λ x y. step_on x e y) f z)

@@ -8,6 +8,7 @@ use Rattle.image.specs.Outcome.{Result}
 use Rattle.daemons.specs.Buffers.{Buffers, step_in}
 use Rattle.daemons.specs.Sending.{cut_records}
 use Rattle.replay_servers.specs.declared.Server.{Server}
+use Rattle.replay_servers.specs.declared.Stepped.{Stepped}
 use Rattle.replay_servers.specs.declared.Reply.{Reply}
 
 -- The table's servers at most, and their highest quota.
@@ -41,11 +42,6 @@ entry_after s number store state =
 -- How many records there are, by their length bytes.
 unfoldable pub records_in : List ℕ → ℕ
 records_in e = length (cut_records e)
-
--- The entry and the reply after an event.
-pub record Stepped : Type 0 where
-  pub server : Server
-  pub reply : Reply
 
 -- After a step with this result.
 unfoldable pub after_step : Server → Result → Stepped

@@ -1,9 +1,9 @@
-// The servers of one program: one event at one server, and the table of servers, of which the named one takes the event.
+// The servers of one program: one event at one server, and the table of servers, of which the named one is altered.
 #![tactic(auto)]
 
 ghost use Rattle.std.specs.Prelude.{◌≡◌};
 ghost use Rattle.daemons.specs.Buffers.{source_in};
-ghost use Rattle.replay_servers.specs.Core.{buffers_of, entry_after, Alters};
+ghost use Rattle.replay_servers.specs.Core.{buffers_of, entry_after, core_of, Alters};
 ghost use Rattle.replay_servers.specs.Table.{altered, replied};
 
 pub mod records; // records.rt: how many records were put out
@@ -50,6 +50,13 @@ pub struct Server {
     pub store: [u8; STATE_ROOM],
 }
 
+// What an event makes of a server, and the reply.
+#[derive(Clone, Copy)]
+pub struct Stepped {
+    pub server: Server,
+    pub reply: Reply,
+}
+
 impl Server {
     // The state that the event comes to. "Recovery starts from that server's last stored image."
     fn source(&self, e: &[u8]) -> [u8; STATE_ROOM]
@@ -61,30 +68,45 @@ impl Server {
         self.state
     }
 
-    // Takes over the new state, stored too where the store word is 1; nothing where the event was refused.
-    fn keep(&mut self, state: [u8; STATE_ROOM], number: u32, store: u32)
-        ensures { self.new ≡ entry_after self.old number store state }
+    // With the new state, stored too where the store word is 1; as before where the event was refused.
+    fn kept(self, state: [u8; STATE_ROOM], number: u32, store: u32) -> Server
+        ensures { result ≡ entry_after self number store state }
     {
-        if number == 0 {
-            self.state = state;
-            if store == 1 {
-                self.store = state;
-            }
+        if number != 0 {
+            return self;
         }
+        if store == 1 {
+            return Server {
+                state,
+                store: state,
+            };
+        }
+        Server { state, ..self }
     }
 
-    // One event.
-    pub fn take(&mut self, e: &[u8]) -> Reply
-        ensures { Alters self.old e.now self.new result }
+    // The core: one event at one server, by value.
+    pub fn core(self, e: &[u8]) -> Stepped
+        ensures { result ≡ core_of self e.now }
     {
         let mut state = self.source(e);
         let mut out: [u8; OUT_ROOM] = [0; OUT_ROOM];
         let a = step_on(&mut state, e, &mut out);
-        self.keep(state, a.number, a.store);
-        Reply {
-            number: a.number,
-            sent: records(&out, a.sent),
+        Stepped {
+            server: self.kept(state, a.number, a.store),
+            reply: Reply {
+                number: a.number,
+                sent: records(&out, a.sent),
+            },
         }
+    }
+
+    // One entry is lent: the core is called by value, and the new entry is stored.
+    pub fn alter(&mut self, e: &[u8]) -> Reply
+        ensures { Alters self.old e.now self.new result }
+    {
+        let stepped = self.core(e);
+        *self = stepped.server;
+        stepped.reply
     }
 }
 
@@ -93,7 +115,7 @@ pub fn dispatch(t: &mut [Server], k: usize, e: &[u8]) -> Reply
     ensures { (result ≡ replied t.old k e.now) × (t.new ≡ altered t.old k e.now) }
 {
     if k < t.len() {
-        t[k].take(e)
+        t[k].alter(e)
     } else {
         Reply {
             number: u32::from(Refusal::OutOfRange),
