@@ -15,9 +15,9 @@ ghost use Rattle.replication.specs.Machine.Exchange.{taken_yellow};
 use crate::first_list::FirstList;
 use crate::states::States;
 use crate::table::hints;
-use octets::numbers::{num8, num16};
 use record::events::StateHead;
-use record::{ActionHead, Context, State};
+use record::parts::id_at as id_read;
+use record::{Context, State};
 use writer::parts::put_id;
 
 // Writes the id from `at` on as the id number `count` of the list.
@@ -25,12 +25,7 @@ fn put_kept(e: &[u8], at: usize, out: &mut [u8], count: usize)
     requires { (at + id_size ≤ length e.now) × (id_size * count + id_size ≤ length out.old) }
     ensures { out.new ≡ patched (id_size * count) (id_bytes (id_at e.now at)) out.old }
 {
-    put_id(
-        out,
-        State::ID * count,
-        num8(e, at),
-        num16(e, at + ActionHead::INDEX),
-    );
+    put_id(out, State::ID * count, id_read(e, at));
 }
 
 impl<'a> FirstList<'a> {

@@ -2,7 +2,7 @@
 ghost use Rattle.exchange.specs.Slots.{Space};
 
 use crate::slots::Slots;
-use image::places::{state_size, states_at};
+use image::sizes::Sizes;
 use octets::numbers::num16;
 use record::State;
 use record::events::StateHead;
@@ -32,12 +32,14 @@ impl<'a> States<'a> {
         ensures slots { result.slots ≡ slots_of servers quota here }
         ensures bytes { result.bytes.now ≡ state.now }
     {
-        let n = servers as u32;
-        let q = quota as u32;
+        let sizes = Sizes {
+            servers: servers as u32,
+            quota: quota as u32,
+        };
         let slots = Slots {
             servers: servers as usize,
-            size: state_size(n, q) as usize,
-            at: states_at(n, q) as usize,
+            size: sizes.state_size() as usize,
+            at: sizes.states_at() as usize,
             here,
         };
         States {

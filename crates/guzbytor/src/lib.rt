@@ -42,7 +42,7 @@ pub extern "C" fn guzbytor_start(state: &mut [u8], servers: u32, quota: u32, me:
 pub extern "C" fn guzbytor_state_check(state: &[u8], out: &[u8]) -> u32
     ensures { result ≡ state_number state.now out.now }
 {
-    state_check::state_number(state, out)
+    outcome_number(state_check::check_buffers(state, out))
 }
 
 #[unsafe(no_mangle)]

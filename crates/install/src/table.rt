@@ -48,6 +48,7 @@ fn entry_at(state: &[u8], k: usize) -> usize
 }
 
 // A hint to the place k of the queue, for the id whose place in the table is p: one more than k.
+// Stays: (a) 0 is no hint, since a table of Option<u16> is twice as long, and memory is fixed.
 fn hint(places: &mut [u16; State::MOST_IDS], p: usize, k: usize)
     requires { (p < most_ids) × (k < most_ids) }
     ensures { places.new ≡ set places.old p (k + 1) }
@@ -69,6 +70,7 @@ pub fn table(state: &[u8]) -> [u16; State::MOST_IDS]
 }
 
 // Actions of a state's queue, from the place `first` on, looked up by the table.
+// Stays: (c) `IndexedFrom` is a clause and no ghost field, which has to be a proposition: nothing proves `IsProp` of it, since it holds a state.
 #[derive(Clone, Copy)]
 pub struct Lookup<'a> {
     pub state: &'a [u8],
@@ -208,6 +210,8 @@ pub fn reds<'a>(state: &'a [u8], places: &'a [u16; State::MOST_IDS]) -> Lookup<'
 }
 
 // The red action at the place k of the queue turns green: the lowest red one takes its place.
+// Stays: (d) state and table are lent side by side here and in passes.rt: a struct that holds the `&mut` would have each contract say that it still
+// holds the same buffer.
 pub fn turn_at_place(state: &mut [u8], places: &mut [u16; State::MOST_IDS], k: usize)
     requires { Indexed places.old state.old × (green_count state.old ≤ k) × (k < queue_count state.old) }
     ensures { Turned (id_in state.old k ∷ []) state.old places.new state.new }

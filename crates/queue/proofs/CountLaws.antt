@@ -18,7 +18,7 @@ use Rattle.replication.proofs.WellFormed.Creators.{of_append}
 use Rattle.image.specs.Layout.{slot_size, the_queue, at_queue_length}
 use Rattle.image.specs.Decode.{actions_at}
 use Rattle.image.specs.Holding.{Computes}
-use Rattle.image.specs.Counts.{place, CountsIn}
+use Rattle.image.specs.Counts.{place}
 use Rattle.queue.proofs.FindLaws.{more}
 use Rattle.queue.proofs.ReadLaws.{queue_read}
 
@@ -48,18 +48,6 @@ pub record Counted (b : List ℕ) (c m at count k : ℕ) : Type 0 where
   pub inside : at + slot_size * m ≤ length b
   pub small : count ≤ k
   pub rest : of_creator c (actions_at m b at) ≡ count + of_creator c (actions_at (m - k) b (at + slot_size * k))
-
-pub count_start : (b : List ℕ) (c m at : ℕ) → CountsIn b → m ≡ number_at 4 b at_queue_length → at ≡ place the_queue b → Counted b c m at 0 0
-count_start b c m at n e f =
-    let a : m - 0 ≡ m = omega arith in
-    let d : at + slot_size * 0 ≡ at = omega arith in
-    record {
-      high = omega arith;
-      few = omega (arith, n.queue, n.most);
-      inside = omega (arith, n.queue, n.queue_end);
-      small = omega arith;
-      rest = rw (a, d) (omega arith);
-    }
 
 pub count_next : (b : List ℕ) (c m at count k v : ℕ) → Counted b c m at count k → k < m → v ≡ of_creator c (action_at b (at + slot_size * k) ∷ []) → v ≤ 1
     → Counted b c m at (count + v) (k + 1)

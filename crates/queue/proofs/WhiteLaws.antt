@@ -58,9 +58,6 @@ sum_end b n total k s h =
     let zero : sum (numbers_at cut_size (n - k) b (header_size + cut_size * k)) ≡ 0 = ap (λ (m : ℕ). sum (numbers_at cut_size m b (header_size + cut_size * k))) none in
     omega (arith, s.rest)
 
-pub sum_low : (b : List ℕ) (n total k : ℕ) → Summed b n total k → total ≤ most_number_limit * servers_in b
-sum_low b n total k s = omega (arith, s.small, s.servers, s.high)
-
 -- ---- as the code computes it
 
 module _ (b : List ℕ) (t m : ℕ) (e : t ≡ sum (decoded b).log.cuts) (f : m ≡ number_at 4 b at_queue_length) where

@@ -10,6 +10,7 @@ use octets::moves::shift_down;
 use octets::numbers::{num8, num16, num32, put16, put32};
 use record::{ActionHead, State};
 
+// Stays: (d) head and payload are lent apart, since every caller has them apart: a struct would be made for each call and taken apart again.
 // An action behind the last one of the queue.
 fn append(state: &mut [u8], head: ActionHead, payload: &[u8])
     requires { RoomFor head.creator (length payload.now) state.old }

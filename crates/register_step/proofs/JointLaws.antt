@@ -67,9 +67,6 @@ module _ (b r o : List ℕ) where
             number_unread b o t u
             ∙ sym (by_register ∙ sym (pick_no (too_short b o) 8 _ _ t (pick_no (reads b and register_reads r) 8 _ _ (sym (and_no (reads b) (register_reads r) u)) refl)))
 
-    pub joint_state_refused : (f : Refusal) → refusal_number f ≡ k → refusal_number f ≡ joint_number b r o
-    joint_state_refused f e = e ∙ joint_state (λ z. refusal_some f (e ∙ z))
-
     module _ (z : k ≡ 0) (t : Bool) (is-t : t ≡ register_reads r) where
       by_reads : joint_number b r o ≡ pick t 0 8
       by_reads =
@@ -81,6 +78,9 @@ module _ (b r o : List ℕ) where
 
       pub joint_unread : t ≡ false → ◌≡◌ {A = ℕ} 8 (joint_number b r o)
       joint_unread e = sym (by_reads ∙ sym (pick_no t 8 _ _ e refl))
+
+  pub joint_state_refused : register_length ≤ length r → (f : Refusal) → refusal_number f ≡ state_number b o → refusal_number f ≡ joint_number b r o
+  joint_state_refused long f e = joint_state long (refusal_number f) e (refusal_some f)
 
 -- ---- one event
 

@@ -1,7 +1,7 @@
 -- The joint step, as the code makes it.
 use Prim.Native.Nat.{ℕ, ◌+◌, ◌^◌, ◌≤◌, ◌<◌}
 use mathlib.Core.Path.{◌≡◌, refl, sym, ap, subst, ◌∙◌}
-use mathlib.Core.Bool.{Bool, true, false}
+use mathlib.Core.Bool.{Bool}
 use mathlib.Core.List.{List, [], ◌++◌, map-append}
 use native.Mathlib.Omega.{arith}
 use lib.ListN.{length, drop, length-append, length-drop}
@@ -27,8 +27,7 @@ use Rattle.pegs.specs.Image.{pegs_in}
 use Rattle.pegs.specs.Outcome.{register_number, applied_all}
 use Rattle.pegs.proofs.Advance.{refusals_append, applied_all_append}
 use Rattle.step.specs.declared.Answer.{Answer}
-use Rattle.step.specs.Answers.{answered, store_word}
-use Rattle.std.specs.Int.{from_bool}
+use Rattle.step.specs.Answers.{answered, refused_with as refused_as}
 use Rattle.refusals.specs.declared.Refusal.{Refusal}
 use Rattle.refusals.specs.Numbers.{refusal_number}
 use Rattle.register_check.proofs.Found.{refusal_some}
@@ -51,11 +50,6 @@ pub answer_refused : (b r e o : List ℕ) (f : Refusal) → refusal_number f ≡
 unfolding joint_on joined unjoined
 answer_refused b r e o f q =
     pick_ne (joint_number b r o) 0 (unjoined (refusal_number f) b r o) _ _ (λ z. refusal_some f (q ∙ z)) (ap (λ (j : ℕ). unjoined j b r o) q)
-
--- As the code has a store word.
-pub store_told : (t : Bool) → from_bool t ≡ store_word t
-store_told true = refl
-store_told false = refl
 
 -- Nothing carried on.
 carried_none : (r : List ℕ) → carried [] r ≡ r
@@ -148,21 +142,23 @@ module _ (b r o : List ℕ) (ready : joint_number b r o ≡ 0) where
       event_raises = raise_ready b₁ e o event_number a g b₂ o₂ y
 
       -- The event is refused.
-      pub event_refused : (x : RegisterAnswer) → (a.number ≡ 0 → ⊥) → x ≡ refused_with a.number → joined x b₂ r₁ o₂ ≡ joint_on b r e o
+      pub event_refused : (f : Refusal) → a ≡ refused_as (refusal_number f) → joined (refused_with (refusal_number f)) b₂ r₁ o₂ ≡ joint_on b r e o
       unfolding joined answered refusal greened joint_of unjoined
-      event_refused x n h =
+      event_refused f is-a =
+          let n : a.number ≡ 0 → ⊥ = λ q. refusal_some f (sym (ap (λ (v : Answer). v.number) is-a) ∙ q) in
+          let h : refused_with (refusal_number f) ≡ refused_with a.number = ap (λ (v : Answer). refused_with v.number) (sym is-a) in
           let number : a.number ≡ (unraised_step m e b₁ o).number = ap (λ (v : Result). v.number) acted in
-          let f = first_refuses s e b held b₁ here.state o (λ q. n (number ∙ q)) in
-          let j : ℕ = f.0 in
-          let told : answered a b₂ o₂ ≡ refusal j b₁ o = acted ∙ f.1 in
-          let unmet = refused_unmet s e b held j f.2 in
+          let w = first_refuses s e b held b₁ here.state o (λ q. n (number ∙ q)) in
+          let j : ℕ = w.0 in
+          let told : answered a b₂ o₂ ≡ refusal j b₁ o = acted ∙ w.1 in
+          let unmet = refused_unmet s e b held j w.2 in
           let back : b₁ ≡ b = here.state ∙ ap (λ (t : Server). image t b) unmet.0 ∙ held.written in
           let none : greened s m ≡ [] = ap (greened s) unmet.0 ∙ drop-length s.log.green in
           let kept : r₁ ≡ r = (counted first (greened s m) r r₁ here.carried).2 ∙ ap (λ (l : List Action). carried l r) none ∙ carried_none r in
           (λ i. joined (h i) b₂ (kept i) o₂)
           ∙ (λ i. unjoined (told i).number (told i).state r (told i).out)
           ∙ ap (λ (d : List ℕ). unjoined j d r o) back
-          ∙ ap (λ (w : Outcome (List ℕ)). joint_of (image_after s e) w b r o) (sym unmet.1)
+          ∙ ap (λ (x : Outcome (List ℕ)). joint_of (image_after s e) x b r o) (sym unmet.1)
           ∙ sym (joint_read b r e o ready)
 
       -- ---- the event is taken

@@ -9,7 +9,7 @@ ghost use Rattle.image.specs.Holding.{HoldsSome};
 ghost use Rattle.pegs.specs.Outcome.{register_number};
 ghost use Rattle.register_step.specs.Carrying.{AppliedOne, CarryReady, CarriesOn, CarriesMet, carry_on, carried_by};
 
-use image::places::{THE_QUEUE, place_of};
+use image::places::{Section, place_of};
 use octets::numbers::num8;
 use queue::history::{green_length, green_slot};
 use record::{ActionHead, State};
@@ -42,7 +42,7 @@ pub fn carry(state: &[u8], register: &mut [u8], from: u32) -> Carried
     ensures carries_on { CarriesOn (drop from (greens_in state.now)) register.old register.new }
 {
     let green = green_length(state);
-    let queue = place_of(state, THE_QUEUE);
+    let queue = place_of(state, Section::Queue);
     let mut refused = 0;
     for k in from..green {
         let slot = queue + State::SLOT * green_slot(state, k);

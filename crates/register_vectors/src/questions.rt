@@ -1,10 +1,11 @@
 // Questions on pegs in the plane: the pegs of a region, in an answer's buffer, and the nearest one.
 use crate::FILL;
 use crate::report::{ROOM, changes};
-use crate::runs::{INSIDE, found, returned};
+use crate::runs::found;
 use octets::numbers::num32;
 use register_check::coordinates::millimetres;
 use register_queries::{in_radius, in_rectangle, nearest_on};
+use std::io::{Result, Write};
 
 const NUMBER: usize = 4;
 
@@ -17,54 +18,52 @@ const THIRD: usize = SECOND + NUMBER;
 
 const FOURTH: usize = THIRD + NUMBER;
 
-// The number at `at`, if it is there.
+#[derive(Clone, Copy)]
+pub enum Region {
+    Rectangle,
+    Circle,
+}
+
+// The number at `at`, and 0 where it is not there.
 fn bits(e: &[u8], at: usize) -> u32 {
-    if e.len() < NUMBER {
-        return 0;
+    if NUMBER <= e.len() && at <= e.len() - NUMBER {
+        num32(e, at)
+    } else {
+        0
     }
-    if e.len() - NUMBER < at {
-        return 0;
-    }
-    num32(e, at)
 }
 
 fn coordinate(e: &[u8], at: usize) -> i32 {
     millimetres(bits(e, at))
 }
 
-fn ask(inside: bool, register: &[u8], e: &[u8], answer: &mut [u8]) -> u32 {
+fn ask(region: Region, register: &[u8], e: &[u8], answer: &mut [u8]) -> u32 {
     let easting = coordinate(e, FIRST);
     let northing = coordinate(e, SECOND);
-    if inside {
-        let east = coordinate(e, THIRD);
-        let north = coordinate(e, FOURTH);
-        return in_rectangle(register, easting, northing, east, north, answer);
+    match region {
+        Region::Rectangle => {
+            let east = coordinate(e, THIRD);
+            let north = coordinate(e, FOURTH);
+            in_rectangle(register, easting, northing, east, north, answer)
+        }
+        Region::Circle => in_radius(register, easting, northing, bits(e, THIRD), answer),
     }
-    in_radius(register, easting, northing, bits(e, THIRD), answer)
 }
 
-// The first bytes of the answer's buffer are lent.
-fn lend(inside: bool, register: &[u8], e: &[u8], answer: &mut [u8], length: usize) {
-    if answer.len() < length {
-        return;
-    }
-    returned(ask(inside, register, e, &mut answer[0..length]));
-}
-
-// The number, and what became of the answer's buffer.
-pub fn region(kind: u8, register: &[u8], e: &[u8]) {
+// The number, and what became of the answer's buffer, whose first bytes are lent.
+pub fn region<W: Write>(out: &mut W, region: Region, register: &[u8], e: &[u8]) -> Result<()> {
     let before: [u8; ROOM] = [FILL; ROOM];
     let mut answer = before;
-    lend(
-        kind == INSIDE,
-        register,
-        e,
-        &mut answer,
-        bits(e, 0) as usize,
-    );
-    changes(&before, &answer);
+    let length = bits(e, 0) as usize;
+    if length <= ROOM {
+        let number = ask(region, register, e, &mut answer[..length]);
+        write!(out, "{number}")?;
+    }
+    changes(out, &before, &answer)
 }
 
-pub fn nearest(register: &[u8], e: &[u8]) {
-    found(nearest_on(register, coordinate(e, 0), coordinate(e, NUMBER)));
+pub fn nearest<W: Write>(out: &mut W, register: &[u8], e: &[u8]) -> Result<()> {
+    let easting = coordinate(e, 0);
+    let northing = coordinate(e, NUMBER);
+    found(out, nearest_on(register, easting, northing))
 }

@@ -1,57 +1,49 @@
 // What a vector does with the register.
-ghost use Rattle.std.specs.Prelude.{◌≤◌, length};
-
-use crate::questions::{nearest, region};
-use octets::numbers::{num8, num16, wider};
-use plane::distances::gap;
+use crate::questions::{Region, nearest, region};
+use octets::numbers::num16;
 use register::{apply_on, start};
 use register_check::{RegisterFind, find};
-use vector_tools::output::{labelled, number};
+use std::io::{Result, Write};
 use vector_tools::patch::patch;
 
-pub const START: u8 = 0;
+#[derive(Clone, Copy, PartialEq, Eq, PartialOrd, Ord)]
+pub enum Kind {
+    Start,
+    Apply,
+    Many,
+    Find,
+    Change,
+    Inside,
+    Within,
+    Nearest,
+}
 
-pub const APPLY: u8 = 1;
+// A byte that names no kind.
+#[derive(Clone, Copy, Debug, Drop)]
+pub struct UnknownKind;
 
-pub const MANY: u8 = 2;
+impl TryFrom<u8> for Kind {
+    type Error = UnknownKind;
 
-pub const FIND: u8 = 3;
-
-pub const CHANGE: u8 = 4;
-
-pub const INSIDE: u8 = 5;
-
-pub const WITHIN: u8 = 6;
-
-pub const NEAREST: u8 = 7;
-
-// Millimetres, with their sign.
-fn signed(v: i32) {
-    let size = gap(v, 0);
-    if v < 0 {
-        io::write_all(1, b" -");
-        io::print_decimal(1, size);
-        return;
+    fn try_from(b: u8) -> std::result::Result<Kind, UnknownKind> {
+        Ok(match b {
+            0 => Kind::Start,
+            1 => Kind::Apply,
+            2 => Kind::Many,
+            3 => Kind::Find,
+            4 => Kind::Change,
+            5 => Kind::Inside,
+            6 => Kind::Within,
+            7 => Kind::Nearest,
+            _ => return Err(UnknownKind),
+        })
     }
-    number(size);
 }
 
 // What is given back of a peg.
-pub fn found(f: RegisterFind) {
-    returned(f.number);
-    labelled(b" found", f.found as u64);
-    labelled(b" index", f.index as u64);
-    io::write_all(1, b" at");
-    signed(f.easting);
-    signed(f.northing);
-}
-
-// One more, where the number is 0.
-fn counted(taken: u64, number: u64) -> u64 {
-    if number == 0 {
-        return std::num::wrapping_add_u64(taken, 1);
-    }
-    taken
+pub fn found<W: Write>(out: &mut W, f: RegisterFind) -> Result<()> {
+    write!(out, "{} found {} index {}", f.number, f.found, f.index)?;
+    write!(out, " at {} {}", f.easting, f.northing)
 }
 
 // Where the parts of many lie: the first number is in front.
@@ -61,72 +53,65 @@ const AT_COUNT: usize = 4;
 
 const AT_PAYLOAD: usize = 6;
 
-const AT_NAME: usize = AT_PAYLOAD + 2;
+const AT_NAME: usize = 2;
 
 const MOST_PAYLOAD: usize = 64;
 
-// The payload with k in the last two bytes of its name, which stand as far from its start as the name is long, and in the two behind it.
-fn numbered(e: &[u8], k: u32) -> [u8; MOST_PAYLOAD]
-    requires { 8 ≤ length e.now }
-{
-    let high = (k / 256 % 256) as u8;
-    let low = (k % 256) as u8;
-    let twice = [high, low, high, low];
+// The payload, whose name is so long, with k in the last two bytes of its name, which stand as far from its start as the name is long, and
+// in the two behind it.
+fn numbered(payload: &[u8], name: u8, k: u16) -> [u8; MOST_PAYLOAD] {
+    let [high, low] = k.to_be_bytes();
     let mut p: [u8; MOST_PAYLOAD] = [0; MOST_PAYLOAD];
-    patch(&mut p, 0, &e[AT_PAYLOAD..]);
-    patch(&mut p, num8(e, AT_NAME - 1) as usize, &twice);
+    patch(&mut p, 0, payload);
+    patch(&mut p, usize::from(name), &[high, low, high, low]);
     p
 }
 
-// What is applied is the first n bytes.
-fn apply_part(register: &mut [u8], payload: &[u8], n: usize) -> u32 {
-    if payload.len() < n {
-        return 0;
+// One of many: nothing is applied where there is no room for the payload.
+fn one(register: &mut [u8], payload: &[u8], name: u8, k: u16) -> u32 {
+    let p = numbered(payload, name, k);
+    if payload.len() <= MOST_PAYLOAD {
+        apply_on(register, &p[..payload.len()])
+    } else {
+        0
     }
-    apply_on(register, &payload[0..n])
-}
-
-// One of many.
-fn one(register: &mut [u8], e: &[u8], k: u32) -> u32
-    requires { 8 ≤ length e.now }
-{
-    let p = numbered(e, k);
-    apply_part(register, &p, e.len() - AT_PAYLOAD)
 }
 
 // How many were taken, and the last one's number.
-fn many(register: &mut [u8], e: &[u8]) {
-    if e.len() < AT_NAME {
-        return;
+fn many<W: Write>(out: &mut W, register: &mut [u8], e: &[u8]) -> Result<()> {
+    if e.len() < AT_PAYLOAD + AT_NAME {
+        return Ok(());
     }
-    let step = wider(num16(e, AT_STEP));
-    let count = num16(e, AT_COUNT);
-    let mut k = wider(num16(e, 0));
-    let mut taken: u64 = 0;
-    let mut last: u64 = 0;
-    let mut i = 0;
-    while i < count {
-        last = one(register, e, k) as u64;
-        taken = counted(taken, last);
-        k = (k + step) % 65536;
-        i += 1;
+    let payload = &e[AT_PAYLOAD..];
+    let name = payload[AT_NAME - 1];
+    let mut k = num16(e, 0);
+    let mut taken: u16 = 0;
+    let mut last = 0;
+    for _i in 0..num16(e, AT_COUNT) {
+        last = one(register, payload, name, k);
+        if last == 0 {
+            taken += 1;
+        }
+        k = k.wrapping_add(num16(e, AT_STEP));
     }
-    labelled(b"taken", taken);
-    labelled(b" last", last);
+    write!(out, "taken {taken} last {last}")
 }
 
-pub fn returned(number: u32) {
-    io::print_decimal(1, number as u64);
-}
-
-pub fn run(kind: u8, register: &mut [u8], e: &[u8]) {
+pub fn run<W: Write>(out: &mut W, kind: Kind, register: &mut [u8], e: &[u8]) -> Result<()> {
     match kind {
-        START => returned(start(register)),
-        APPLY => returned(apply_on(register, e)),
-        MANY => many(register, e),
-        FIND => found(find(register, e)),
-        INSIDE | WITHIN => region(kind, register, e),
-        NEAREST => nearest(register, e),
-        _ => {}
+        Kind::Start => {
+            let number = start(register);
+            write!(out, "{number}")
+        }
+        Kind::Apply => {
+            let number = apply_on(register, e);
+            write!(out, "{number}")
+        }
+        Kind::Many => many(out, register, e),
+        Kind::Find => found(out, find(register, e)),
+        Kind::Change => Ok(()),
+        Kind::Inside => region(out, Region::Rectangle, register, e),
+        Kind::Within => region(out, Region::Circle, register, e),
+        Kind::Nearest => nearest(out, register, e),
     }
 }

@@ -1,70 +1,68 @@
 // A vector: what it does (1 byte), the length that is lent (4), where bytes are changed (4), how many (1), these, and the rest.
-ghost use Rattle.std.specs.Prelude.{◌+◌, ◌≤◌, length};
-
 use crate::report::{ROOM, changes};
-use crate::runs::{CHANGE, MANY, run};
-use octets::numbers::{num8, num32};
+use crate::runs::{Kind, run};
+use octets::numbers::num32;
+use std::io::{Result, Write};
 use vector_tools::patch::patch;
 
-const AT_LENGTH: usize = 1;
-
-const AT_CHANGED: usize = 5;
-
-const AT_COUNT: usize = 9;
-
-const AT_BYTES: usize = 10;
-
-// A copy of the buffer with bytes changed.
-fn changed(base: &[u8], at: usize, src: &[u8]) -> [u8; ROOM] {
-    let mut work: [u8; ROOM] = [0; ROOM];
-    patch(&mut work, 0, base);
-    patch(&mut work, at, src);
-    work
+#[derive(Clone, Copy, Drop)]
+struct Vector<'a> {
+    kind: u8,
+    length: usize,
+    changed_at: usize,
+    changed: &'a [u8],
+    rest: &'a [u8],
 }
 
-// Lends the first bytes.
-fn lend(kind: u8, buffer: &mut [u8], length: usize, e: &[u8]) {
-    if buffer.len() < length {
-        return;
+impl Vector<'_> {
+    const AT_LENGTH: usize = 1;
+
+    const AT_CHANGED: usize = 5;
+
+    const AT_COUNT: usize = 9;
+
+    const AT_BYTES: usize = 10;
+
+    fn read(e: &[u8]) -> Option<Vector<'_>> {
+        if e.len() < Vector::AT_BYTES {
+            return None;
+        }
+        let (front, bytes) = e.split_at(Vector::AT_BYTES);
+        let (changed, rest) = bytes.split_at_checked(usize::from(front[Vector::AT_COUNT]))?;
+        Some(Vector {
+            kind: front[0],
+            length: num32(front, Vector::AT_LENGTH) as usize,
+            changed_at: num32(front, Vector::AT_CHANGED) as usize,
+            changed,
+            rest,
+        })
     }
-    run(kind, &mut buffer[0..length], e);
 }
 
-// What comes of a buffer.
-fn answered(before: [u8; ROOM], kind: u8, length: usize, e: &[u8]) -> [u8; ROOM] {
-    let mut work = before;
-    lend(kind, &mut work, length, e);
-    if kind <= MANY {
-        changes(&before, &work);
+// Does this with the first bytes of the buffer.
+fn lend<W: Write>(out: &mut W, kind: Kind, work: &mut [u8; ROOM], v: &Vector<'_>) -> Result<()> {
+    let before = *work;
+    if v.length <= ROOM {
+        run(out, kind, &mut work[..v.length], v.rest)?;
     }
-    work
-}
-
-// What comes of the vector.
-fn tried(base: &[u8], e: &[u8], m: usize) -> [u8; ROOM]
-    requires { 10 + m ≤ length e.now }
-{
-    let end = AT_BYTES + m;
-    let before = changed(base, num32(e, AT_CHANGED) as usize, &e[AT_BYTES..end]);
-    answered(before, num8(e, 0), num32(e, AT_LENGTH) as usize, &e[end..])
+    if kind <= Kind::Many {
+        changes(out, &before, work)?;
+    }
+    Ok(())
 }
 
 // Where bytes are changed for this vector alone, what comes of it is dropped.
-pub fn vector(base: &mut [u8], e: &[u8]) {
-    if e.len() < AT_BYTES {
-        return;
+pub fn vector<W: Write>(out: &mut W, base: &mut [u8; ROOM], e: &[u8]) -> Result<()> {
+    let Some(v) = Vector::read(e) else {
+        return Ok(());
+    };
+    let mut work = *base;
+    patch(&mut work, v.changed_at, v.changed);
+    if let Ok(kind) = Kind::try_from(v.kind) {
+        lend(out, kind, &mut work, &v)?;
+        if v.changed.is_empty() || kind == Kind::Change {
+            *base = work;
+        }
     }
-    let m = num8(e, AT_COUNT) as usize;
-    if e.len() - AT_BYTES < m {
-        return;
-    }
-    let after = tried(base, e, m);
-    io::write_all(1, b" ");
-    if m == 0 {
-        patch(base, 0, &after);
-        return;
-    }
-    if num8(e, 0) == CHANGE {
-        patch(base, 0, &after);
-    }
+    write!(out, " ")
 }

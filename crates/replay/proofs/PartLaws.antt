@@ -1,22 +1,23 @@
 -- All passes of one part of the input: what they take, and how the code makes them.
-use Prim.Native.Nat.{ℕ, zero, suc, ◌-◌, ◌≤◌, ◌<◌}
+use Prim.Native.Nat.{ℕ, zero, suc, ◌+◌, ◌-◌, ◌≤◌, ◌<◌}
 use mathlib.Core.Path.{◌≡◌, refl, sym, ap, subst, ◌∙◌}
-use mathlib.Core.Bool.{Bool, true}
+use mathlib.Core.Bool.{Bool, true, false}
+use Rattle.std.specs.Prelude.{Option, Some, None}
 use mathlib.Core.List.{List}
 use native.Mathlib.Omega.{arith}
 use lib.ListN.{length, drop, length-drop}
-use Rattle.base.specs.Tests.{◌<?◌}
+use Rattle.base.specs.Tests.{◌<?◌, pick}
 use Rattle.base.proofs.TestLaws.{not_both, Known, holds, fails, known, lt_holds, lt_fails}
 use Rattle.base.specs.Bytes.{Bytes}
 use Rattle.replay_servers.specs.declared.Server.{Server}
 use Rattle.replay_turns.specs.declared.Going.{Going}
 use Rattle.replay_turns.specs.declared.Going.TheVariants.{On, Read, Stop}
-use Rattle.replay.specs.declared.Printed.{Printed}
+use Rattle.replay_lines.specs.Input.{event_room}
 use Rattle.replay_lines.specs.Lines.{line_room}
 use Rattle.replay.specs.Reading.{lines_room, Fed}
 use Rattle.replay_turns.specs.Turns.{Turned, turn_of}
 use Rattle.replay_turns.specs.Passes.{Progress, none, behind, next_event, pass_from, pass_of}
-use Rattle.replay.specs.Parts.{part_from, part_of, asks_more, printed}
+use Rattle.replay.specs.Parts.{part_from, part_of, asks_more, left_of}
 use Rattle.replay_turns.proofs.Goings.{on_read, on_stop, Goes, on, read, stop, goes, if_on_lem, if_off}
 use Rattle.replay_turns.proofs.PassLaws.{Feeds, feeds_behind, turn_feeds, turn_some, from_full, from_on, from_end}
 
@@ -206,14 +207,39 @@ more_read On e = not_both e
 more_read Read e = refl
 more_read Stop e = not_both e
 
-pub fed : (t : List Server) (n event : ℕ) (input : List ℕ) (ended : Bool) (r : Printed)
-    → r ≡ printed (part_of lines_room t n event input ended) → Bytes input → Fed r input
-unfolding printed
-fed t n event input ended r e b =
+abbrev value : Option ℕ → ℕ
+value (Some k) = k
+value None = 0
+
+abbrev is_some : Option ℕ → Bool
+is_some (Some k) = true
+is_some None = false
+
+-- What an answer says of whether more is asked for.
+asked_at : (b : Bool) (k j : ℕ) → Some k ≡ pick b (Some j) None → (b ≡ true) × (k ≡ j)
+unfolding pick
+asked_at true k j e = (refl, ap value e)
+asked_at false k j e = not_both (sym (ap is_some e))
+
+pub asked : (w : Progress) (k : ℕ) → Some k ≡ left_of w → (asks_more w.going ≡ true) × (k ≡ w.taken)
+unfolding left_of
+asked w k e = asked_at (asks_more w.going) k w.taken e
+
+none_at : (b : Bool) (j : ℕ) → None ≡ pick b (Some j) None → b ≡ false
+unfolding pick
+none_at true j e = not_both (ap is_some e)
+none_at false j e = refl
+
+pub not_asked : (w : Progress) → None ≡ left_of w → asks_more w.going ≡ false
+unfolding left_of
+not_asked w e = none_at (asks_more w.going) w.taken e
+
+pub fed : (t : List Server) (n event : ℕ) (input : List ℕ) (ended : Bool) (r : Option ℕ)
+    → r ≡ left_of (part_of lines_room t n event input ended) → Bytes input → Fed r input
+fed t n event input ended None e b = tt
+fed t n event input ended (Some k) e b =
     let p : Progress = part_of lines_room t n event input ended in
     let f : Feeds input ended p.going p.taken = part_fed lines_room (omega arith) t n event input ended in
-    let taken_is : r.taken ≡ p.taken = ap (λ (x : Printed). x.taken) e in
-    record {
-      there = omega (arith, f.there);
-      less = λ m. omega (arith, f.less b (more_read p.going (sym (ap (λ (x : Printed). x.more) e) ∙ m)));
-    }
+    let a = asked p k e in
+    let less : length input < p.taken + event_room = f.less b (more_read p.going a.0) in
+    (omega (arith, f.there, a.1), omega (arith, less, a.1))

@@ -9,7 +9,7 @@ use lib.Seq.{take-append-le, drop-append-le}
 use Rattle.format.specs.Places.{setup_size}
 use Rattle.replay_servers.specs.Core.{table_servers, table_quota}
 use Rattle.base.specs.Tests.{◌<?◌, ◌≤?◌}
-use Rattle.base.proofs.TestLaws.{lt_yes, lt_no, le_yes, le_no, le_holds, and_holds, pick_as}
+use Rattle.base.proofs.TestLaws.{lt_yes, lt_no, le_yes, le_no, le_holds, and_holds, not_both, pick_as}
 use Rattle.base.specs.Bytes.{number_at, part_at}
 use Rattle.base.proofs.BytesLaws.{number_drop, number_front}
 use Rattle.base.specs.Lists.{at, below}
@@ -23,9 +23,12 @@ use Rattle.replay_servers.specs.Starting.{fresh_table}
 use Rattle.replay_servers.specs.Table.{altered}
 use Rattle.replay_servers.proofs.Tabled.{Tabled, fresh_tabled}
 use Rattle.replay_lines.specs.declared.input.Next.{Next}
-use Rattle.replay_lines.specs.declared.input.Next.TheVariants.{Event, Wrong, More, Done}
+use Rattle.replay_lines.specs.declared.input.Next.TheVariants.{Event, More, Done}
+use Rattle.refusals.specs.declared.Refusal.{Refusal}
+use Rattle.refusals.specs.Numbers.{refusal_number}
+use Rattle.std.specs.Prelude.{Result, Ok, Err}
 use Rattle.replay_turns.specs.declared.Going.TheVariants.{On, Read, Stop}
-use Rattle.replay_lines.specs.Input.{setup_numbers, setup_of, next_of}
+use Rattle.replay_lines.specs.Input.{next_of}
 use Rattle.replay_turns.specs.Turns.{line_at, Turned, turn_by, turn_of}
 use Rattle.replay_turns.proofs.Goings.{on_stop, read_stop}
 use Rattle.replay_lines.proofs.InputLaws.{Whole, whole_event, Comes, wrong, cut, done, comes}
@@ -67,7 +70,7 @@ size_read n m k rest more w =
 -- ---- turns
 
 module _ (t : List Images) (s : List declared.Server) (r : Tabled t s) (event : ℕ) (ended : Bool) where
-  abbrev next : List ℕ → Next
+  abbrev next : List ℕ → Result Next Refusal
   next p = next_of (length t) p ended
 
   abbrev turn : List ℕ → Turned
@@ -77,16 +80,16 @@ module _ (t : List Images) (s : List declared.Server) (r : Tabled t s) (event : 
   abbrev after : ℕ → List ℕ → List Images
   after m p = table_after (get_or p 0 0) (part_at m p 1) (at t (get_or p 0 0)) t
 
-  text_on : (m : ℕ) (p : List ℕ) → next p ≡ Event m → (turn p).text ≡ line_at s event (get_or p 0 0) (part_at m p 1)
+  text_on : (m : ℕ) (p : List ℕ) → next p ≡ Ok (Event m) → (turn p).text ≡ line_at s event (get_or p 0 0) (part_at m p 1)
   unfolding turn_of turn_by
-  text_on m p e = ap (λ (x : Next). (turn_by x s event p).text) e
+  text_on m p e = ap (λ (x : Result Next Refusal). (turn_by x s event p).text) e
 
-  table_on : (m : ℕ) (p : List ℕ) → next p ≡ Event m → (turn p).table ≡ altered s (get_or p 0 0) (part_at m p 1)
+  table_on : (m : ℕ) (p : List ℕ) → next p ≡ Ok (Event m) → (turn p).table ≡ altered s (get_or p 0 0) (part_at m p 1)
   unfolding turn_of turn_by
-  table_on m p e = ap (λ (x : Next). (turn_by x s event p).table) e
+  table_on m p e = ap (λ (x : Result Next Refusal). (turn_by x s event p).table) e
 
   -- A turn with an event prints its line, whatever comes behind it ..
-  pub prints_event : (d m : ℕ) (p f : List ℕ) → next p ≡ Event m
+  pub prints_event : (d m : ℕ) (p f : List ℕ) → next p ≡ Ok (Event m)
       → events (suc d) event t (p ++ f) ≡ (turn p).text ++ events d (event + 1) (after m p) (drop (m + 1) p ++ f)
   unfolding part_at
   prints_event d m [] f e = absurd (omega (arith, (whole_event (length t) [] ended m e).inside))
@@ -107,7 +110,7 @@ module _ (t : List Images) (s : List declared.Server) (r : Tabled t s) (event : 
       ∙ ap (λ (x : ℕ). (turn (k ∷ rest)).text ++ events d (event + 1) (after m (k ∷ rest)) (drop x (k ∷ rest) ++ f)) (sym place)
 
   -- .. and leaves a table that keeps what the servers then have.
-  pub keeps_event : (m : ℕ) (p : List ℕ) → next p ≡ Event m → Tabled (after m p) (turn p).table
+  pub keeps_event : (m : ℕ) (p : List ℕ) → next p ≡ Ok (Event m) → Tabled (after m p) (turn p).table
   keeps_event m p e =
       subst (Tabled (after m p)) (sym (table_on m p e))
       (table_shown t s r (get_or p 0 0) (part_at m p 1) (whole_event (length t) p ended m e).server)
@@ -121,15 +124,14 @@ module _ (t : List Images) (s : List declared.Server) (r : Tabled t s) (event : 
         ∙ ap (λ (y : List ℕ). events (suc d) event t (q ∷ y)) (append-nil rest)
         ∙ events_cut d event t q rest h l
 
-    wrong_prints : (p : List ℕ) (k : ℕ) → Comes (length t) p ended (Wrong k) → events (suc d) event t (p ++ f) ≡ input_line k
+    wrong_prints : (p : List ℕ) (k : Refusal) → Comes (length t) p ended (Err k) → events (suc d) event t (p ++ f) ≡ input_line (refusal_number k)
     unfolding record_length
-    wrong_prints [] k (wrong j e there h) = absurd (omega arith)
-    wrong_prints [] k (cut j e end there h l) = absurd (omega arith)
-    wrong_prints (q ∷ rest) k (wrong j e there h) = events_wrong d event t q (rest ++ f) h ∙ ap input_line (sym e)
-    wrong_prints (q ∷ rest) k (cut j e end there h l) =
-        cut_prints q rest h (omega (arith, number_behind_one q rest)) end ∙ ap input_line (sym e)
+    wrong_prints [] k (wrong there h) = absurd (omega arith)
+    wrong_prints [] k (cut end there h l) = absurd (omega arith)
+    wrong_prints (q ∷ rest) k (wrong there h) = events_wrong d event t q (rest ++ f) h
+    wrong_prints (q ∷ rest) k (cut end there h l) = cut_prints q rest h (omega (arith, number_behind_one q rest)) end
 
-    none_prints : (p : List ℕ) → Comes (length t) p ended Done → events (suc d) event t (p ++ f) ≡ []
+    none_prints : (p : List ℕ) → Comes (length t) p ended (Ok Done) → events (suc d) event t (p ++ f) ≡ []
     unfolding events
     none_prints [] (done e h) = ap (events (suc d) event t) (last e)
     none_prints (q ∷ rest) (done e h) = absurd (omega arith)
@@ -139,55 +141,54 @@ module _ (t : List Images) (s : List declared.Server) (r : Tabled t s) (event : 
     unfolding turn_of turn_by
     prints_stop p g = go (next p) refl g
       where
-        go : (x : Next) → next p ≡ x → (turn_by x s event p).going ≡ Stop → events (suc d) event t (p ++ f) ≡ (turn_by (next p) s event p).text
-        go (Event m) e h = on_stop On refl h
-        go (Wrong k) e h = wrong_prints p k (subst (Comes (length t) p ended) e (comes (length t) p ended))
-            ∙ sym (ap (λ (x : Next). (turn_by x s event p).text) e)
-        go More e h = read_stop Read refl h
-        go Done e h = none_prints p (subst (Comes (length t) p ended) e (comes (length t) p ended))
-            ∙ sym (ap (λ (x : Next). (turn_by x s event p).text) e)
+        go : (x : Result Next Refusal) → next p ≡ x → (turn_by x s event p).going ≡ Stop → events (suc d) event t (p ++ f) ≡ (turn_by (next p) s event p).text
+        go (Ok (Event m)) e h = on_stop On refl h
+        go (Err k) e h = wrong_prints p k (subst (Comes (length t) p ended) e (comes (length t) p ended))
+            ∙ sym (ap (λ (x : Result Next Refusal). (turn_by x s event p).text) e)
+        go (Ok More) e h = read_stop Read refl h
+        go (Ok Done) e h = none_prints p (subst (Comes (length t) p ended) e (comes (length t) p ended))
+            ∙ sym (ap (λ (x : Result Next Refusal). (turn_by x s event p).text) e)
 
 -- ---- the set-up
 
-pub prints_setup : (k : ℕ) (input : List ℕ) → (setup_of (take setup_size input)).number ≡ k → (k ≡ 0 → ⊥) → replay table_servers table_quota input ≡ setup_line k
-unfolding setup_of setup_numbers replay after_setup
-prints_setup k input e h = go (read_setup table_servers table_quota (take setup_size input)) e
-  where
-    go : (x : Reading Setup) → (setup_numbers x).number ≡ k → after_setup x (drop setup_size input) ≡ setup_line k
-    go (says y) e = absurd (h (sym e))
-    go (refused j) e = ap setup_line e
+pub prints_setup : (k : ℕ) (input : List ℕ) → read_setup table_servers table_quota (take setup_size input) ≡ refused k
+    → replay table_servers table_quota input ≡ setup_line k
+unfolding replay after_setup
+prints_setup k input e = ap (λ (x : Reading Setup). after_setup x (drop setup_size input)) e
 
 -- The table at the start, of n servers with the quota q.
 abbrev pub fresh : (n q : ℕ) → List Images
 fresh n q = map (λ k. started (start n q k)) (below n)
 
-starts : (e rest : List ℕ) → (setup_of e).number ≡ 0
-    → (after_setup (read_setup table_servers table_quota e) rest ≡ header ++ events (length rest) 1 (fresh (setup_of e).servers (setup_of e).quota) rest)
-    × Tabled (fresh (setup_of e).servers (setup_of e).quota) (fresh_table (setup_of e).servers (setup_of e).quota)
-unfolding setup_of setup_numbers read_setup setup_ok after_setup
-starts e rest =
-    pick_as P (setup_frame_ok e) _ _ (λ f. pick_as P (setup_ok table_servers table_quota (setup_in e)) _ _ (λ ok z. (refl, tabled ok)) (λ n z. absurd (omega arith)))
-    (λ n z. absurd (omega arith))
+abbrev setup_read : Reading Setup → Setup
+setup_read (says y) = y
+setup_read (refused k) = record { servers = 0; quota = 0 }
+
+abbrev is_good : Reading Setup → Bool
+is_good (says y) = true
+is_good (refused k) = false
+
+-- A set-up that is read is in range.
+says_ok : (e : List ℕ) (s : Setup) → read_setup table_servers table_quota e ≡ says s → setup_ok table_servers table_quota s ≡ true
+unfolding read_setup
+says_ok e s =
+    pick_as P (setup_frame_ok e) _ _
+    (λ f. pick_as P (setup_ok table_servers table_quota (setup_in e)) _ _
+    (λ ok q. subst (λ (y : Setup). setup_ok table_servers table_quota y ≡ true) (ap setup_read q) ok) (λ n q. not_both (ap is_good q)))
+    (λ n q. not_both (ap is_good q))
   where
     P : Reading Setup → Type 0
-    P x =
-        (setup_numbers x).number ≡ 0
-        → (after_setup x rest ≡ header ++ events (length rest) 1 (fresh (setup_numbers x).servers (setup_numbers x).quota) rest)
-        × Tabled (fresh (setup_numbers x).servers (setup_numbers x).quota) (fresh_table (setup_numbers x).servers (setup_numbers x).quota)
-
-    tabled : setup_ok table_servers table_quota (setup_in e) ≡ true
-        → Tabled (fresh (setup_in e).servers (setup_in e).quota) (fresh_table (setup_in e).servers (setup_in e).quota)
-    tabled ok =
-        let sizes = and_holds _ _ ok in
-        let limits = and_holds _ _ sizes.1 in
-        fresh_tabled (setup_in e).servers (setup_in e).quota sizes.0 (le_holds (setup_in e).servers table_servers limits.0)
-        (le_holds (setup_in e).quota table_quota limits.1)
+    P x = x ≡ says s → setup_ok table_servers table_quota s ≡ true
 
 -- After a good set-up the header follows, then the events at servers at their start; the table that the program makes keeps these.
-pub prints_start : (input : List ℕ) → (setup_of (take setup_size input)).number ≡ 0
-    → (replay table_servers table_quota input
-    ≡ header ++ events (length (drop setup_size input)) 1 (fresh (setup_of (take setup_size input)).servers (setup_of (take setup_size input)).quota) (drop setup_size input))
-    × Tabled (fresh (setup_of (take setup_size input)).servers (setup_of (take setup_size input)).quota)
-    (fresh_table (setup_of (take setup_size input)).servers (setup_of (take setup_size input)).quota)
-unfolding replay
-prints_start input e = starts (take setup_size input) (drop setup_size input) e
+pub prints_start : (input : List ℕ) (s : Setup) → read_setup table_servers table_quota (take setup_size input) ≡ says s
+    → (replay table_servers table_quota input ≡ header ++ events (length (drop setup_size input)) 1 (fresh s.servers s.quota) (drop setup_size input))
+    × Tabled (fresh s.servers s.quota) (fresh_table s.servers s.quota)
+unfolding replay after_setup setup_ok
+prints_start input s e =
+    let ok = says_ok (take setup_size input) s e in
+    let sizes = and_holds _ _ ok in
+    let limits = and_holds _ _ sizes.1 in (
+      ap (λ (x : Reading Setup). after_setup x (drop setup_size input)) e,
+      fresh_tabled s.servers s.quota sizes.0 (le_holds s.servers table_servers limits.0) (le_holds s.quota table_quota limits.1),
+    )

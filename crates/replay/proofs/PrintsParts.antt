@@ -17,13 +17,13 @@ use Rattle.replication.specs.Images.{Images}
 use Rattle.replication.specs.Replay.{header, setup_line, events, replay}
 use Rattle.replay_servers.specs.declared.Server.{Server}
 use Rattle.replay_servers.specs.Starting.{fresh_table}
-use Rattle.replay_lines.specs.declared.input.Setup.{Setup}
+use Rattle.format.specs.Types.{Reading, says, refused}
+use Rattle.format.specs.Setup.{Setup, read_setup}
 use Rattle.replay_turns.specs.declared.Going.TheVariants.{On, Read, Stop}
-use Rattle.replay_lines.specs.Input.{setup_of}
 use Rattle.replay_lines.specs.Lines.{line_room}
 use Rattle.replay_turns.specs.Turns.{Turned, turn_of}
 use Rattle.replay_turns.specs.Passes.{Progress, next_event, pass_from, pass_of}
-use Rattle.replay.specs.Parts.{part_from, part_of, asks_more, parts_from, printed_of, PrintsReplay}
+use Rattle.replay.specs.Parts.{part_from, part_of, asks_more, parts_from, printed_behind, printed_of, PrintsReplay}
 use Rattle.replay_turns.proofs.Goings.{on_read, on_stop, read_stop, Goes, on, read, stop, goes}
 use Rattle.replay_turns.proofs.PassLaws.{from_full, from_on, from_end}
 use Rattle.replay.proofs.PartLaws.{part_on, part_end, part_fed, part_off}
@@ -202,27 +202,19 @@ module _ (n room : ℕ) (line : line_room ≤ room) where
 -- ---- the whole input
 
 pub prints_replay : PrintsReplay
-unfolding PrintsReplay printed_of
-prints_replay room input parts line small each cut = go (known ((setup_of (take setup_size input)).number =? 0))
+unfolding PrintsReplay printed_of printed_behind
+prints_replay room input parts line small each cut = go (read_setup table_servers table_quota (take setup_size input)) refl
   where
-    s : Setup
-    s = setup_of (take setup_size input)
-
-    P : List ℕ
-    P = header ++ parts_from room (fresh_table s.servers s.quota) s.servers 1 [] (parts ++ ([] ∷ []))
-
-    go : Known (s.number =? 0) → pick (s.number =? 0) P (setup_line s.number) ≡ replay table_servers table_quota input
-    go (fails e) =
-        sym (pick_no (s.number =? 0) (setup_line s.number) P (setup_line s.number) e refl)
-        ∙ sym (prints_setup s.number input refl (eq_fails s.number 0 e))
-    go (holds e) =
-        let start = prints_start input (eq_holds s.number 0 e) in
+    go : (x : Reading Setup) → read_setup table_servers table_quota (take setup_size input) ≡ x
+        → printed_behind room x (parts ++ ([] ∷ [])) ≡ replay table_servers table_quota input
+    go (refused k) e = sym (prints_setup k input e)
+    go (says s) e =
+        let start = prints_start input s e in
         let many : length (fresh s.servers s.quota) ≡ s.servers = length-map (below s.servers) _ ∙ below_length s.servers in
         let rest : length (joined parts) ≡ length input - setup_size = ap length cut ∙ length-drop setup_size input in
         let h : Stands s.servers (joined parts) (fresh s.servers s.quota) (fresh_table s.servers s.quota) (length (drop setup_size input)) 1 []
         = record { tabled = start.1; count = many; bound = omega (arith, ap length cut); small = omega arith } in
-        sym (pick_yes (s.number =? 0) P P (setup_line s.number) e refl)
-        ∙ ap (λ (x : List ℕ). header ++ x)
+        ap (λ (x : List ℕ). header ++ x)
         (parts_print s.servers room line parts (fresh s.servers s.quota) (fresh_table s.servers s.quota) (length (drop setup_size input)) 1 [] each h
         ∙ ap (events (length (drop setup_size input)) 1 (fresh s.servers s.quota)) cut)
         ∙ sym start.0

@@ -15,7 +15,9 @@ use Rattle.replication.specs.Replay.{table_after, events}
 use Rattle.replay_servers.specs.declared.Server.{Server}
 use Rattle.replay_servers.proofs.Tabled.{Tabled}
 use Rattle.replay_lines.specs.declared.input.Next.{Next}
-use Rattle.replay_lines.specs.declared.input.Next.TheVariants.{Event, Wrong, More, Done}
+use Rattle.replay_lines.specs.declared.input.Next.TheVariants.{Event, More, Done}
+use Rattle.refusals.specs.declared.Refusal.{Refusal}
+use Rattle.std.specs.Prelude.{Result, Ok, Err}
 use Rattle.replay_turns.specs.declared.Going.TheVariants.{On, Read, Stop}
 use Rattle.replay_lines.specs.Input.{next_of}
 use Rattle.replay_turns.specs.Turns.{Turned, turn_by, turn_of}
@@ -76,16 +78,16 @@ after_length k e (some i) t = length-set t k (left_by (arrive i e) i)
 
 -- A turn that the next one follows has an event.
 pub has_event : (s : List Server) (n event : ℕ) (p : List ℕ) (ended : Bool) → (turn_of s n event p ended).going ≡ On
-    → (m : ℕ) × (next_of n p ended ≡ Event m) × ((turn_of s n event p ended).taken ≡ m + 1)
+    → (m : ℕ) × (next_of n p ended ≡ Ok (Event m)) × ((turn_of s n event p ended).taken ≡ m + 1)
 unfolding turn_of turn_by
 has_event s n event p ended g = go (next_of n p ended) refl g
   where
-    go : (x : Next) → next_of n p ended ≡ x → (turn_by x s event p).going ≡ On
-        → (m : ℕ) × (next_of n p ended ≡ Event m) × ((turn_by (next_of n p ended) s event p).taken ≡ m + 1)
-    go (Event m) e h = (m, e, ap (λ (y : Next). (turn_by y s event p).taken) e)
-    go (Wrong k) e h = on_stop Stop h refl
-    go More e h = on_read Read h refl
-    go Done e h = on_stop Stop h refl
+    go : (x : Result Next Refusal) → next_of n p ended ≡ x → (turn_by x s event p).going ≡ On
+        → (m : ℕ) × (next_of n p ended ≡ Ok (Event m)) × ((turn_by (next_of n p ended) s event p).taken ≡ m + 1)
+    go (Ok (Event m)) e h = (m, e, ap (λ (y : Result Next Refusal). (turn_by y s event p).taken) e)
+    go (Err k) e h = on_stop Stop h refl
+    go (Ok More) e h = on_read Read h refl
+    go (Ok Done) e h = on_stop Stop h refl
 
 -- A turn after which more input is asked for changes nothing.
 pub waits : (s : List Server) (n event : ℕ) (p : List ℕ) (ended : Bool) → (turn_of s n event p ended).going ≡ Read
@@ -93,12 +95,12 @@ pub waits : (s : List Server) (n event : ℕ) (p : List ℕ) (ended : Bool) → 
 unfolding turn_of turn_by
 waits s n event p ended g = go (next_of n p ended) refl g
   where
-    go : (x : Next) → next_of n p ended ≡ x → (turn_by x s event p).going ≡ Read
+    go : (x : Result Next Refusal) → next_of n p ended ≡ x → (turn_by x s event p).going ≡ Read
         → turn_by (next_of n p ended) s event p ≡ record { table = s; taken = 0; text = []; going = Read }
-    go (Event m) e h = on_read On refl h
-    go (Wrong k) e h = read_stop Stop h refl
-    go More e h = ap (λ (y : Next). turn_by y s event p) e
-    go Done e h = read_stop Stop h refl
+    go (Ok (Event m)) e h = on_read On refl h
+    go (Err k) e h = read_stop Stop h refl
+    go (Ok More) e h = ap (λ (y : Result Next Refusal). turn_by y s event p) e
+    go (Ok Done) e h = read_stop Stop h refl
 
 module _ (f : List ℕ) (t : List Images) (s : List Server) (event : ℕ) (p : List ℕ) (ended : Bool) (kept : Tabled t s) where
   abbrev pub turn : Turned
@@ -109,7 +111,7 @@ module _ (f : List ℕ) (t : List Images) (s : List Server) (event : ℕ) (p : L
   step = record { table = turn.table; event = next_event event; taken = turn.taken; text = turn.text; going = turn.going }
 
   pub step_leads : (d : ℕ) → length (p ++ f) ≤ d → event + length (p ++ f) < 2 ^ 64
-      → (m : ℕ) × (next_of (length t) p ended ≡ Event m) × (turn.taken ≡ m + 1) → Leads (length t) f t d event p step
+      → (m : ℕ) × (next_of (length t) p ended ≡ Ok (Event m)) × (turn.taken ≡ m + 1) → Leads (length t) f t d event p step
   unfolding next_event
   step_leads zero h l (m, e, k) =
       absurd (omega (arith, (whole_event (length t) p ended m e).inside, length-append p f))

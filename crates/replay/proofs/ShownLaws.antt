@@ -30,7 +30,7 @@ use Rattle.record.specs.Events.{last_in}
 use Rattle.replay_servers.specs.declared.Server as declared
 use Rattle.image.specs.Layout.{at_mode, at_last}
 use Rattle.replay_servers.specs.declared.Reply.{Reply}
-use Rattle.replay_servers.specs.declared.Stepped.{Stepped}
+use Rattle.replay_servers.specs.Core.{Stepped}
 use Rattle.replay_servers.specs.Core.{core_of}
 use Rattle.replay_servers.specs.Table as table
 use Rattle.replay_servers.specs.Table.{altered}

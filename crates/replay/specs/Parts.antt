@@ -1,6 +1,8 @@
 -- What the program prints of an input that comes in parts.
-use Rattle.std.specs.Prelude.{ℕ, zero, suc, ◌^◌, ◌≤◌, ◌<◌, ◌≡◌, Bool, true, false, List, [], ◌∷◌, ◌++◌, length, take, drop}
+use Rattle.std.specs.Prelude.{ℕ, zero, suc, ◌^◌, ◌≤◌, ◌<◌, ◌≡◌, Bool, true, false, Option, Some, None, List, [], ◌∷◌, ◌++◌, length, take, drop}
 use Rattle.format.specs.Places.{setup_size}
+use Rattle.format.specs.Types.{Reading, says, refused}
+use Rattle.format.specs.Setup.{Setup, read_setup}
 use Rattle.base.specs.Tests.{◌=?◌, pick}
 use Rattle.base.specs.Bytes.{joined}
 use Rattle.base.specs.Lists.{Each}
@@ -8,13 +10,10 @@ use Rattle.replication.specs.Replay.{header, setup_line, replay}
 use Rattle.replay_servers.specs.Core.{table_servers, table_quota}
 use Rattle.replay_servers.specs.declared.Server.{Server}
 use Rattle.replay_servers.specs.Starting.{fresh_table}
-use Rattle.replay_lines.specs.declared.input.Setup.{Setup}
 use Rattle.replay_turns.specs.declared.Going.{Going}
 use Rattle.replay_turns.specs.declared.Going.TheVariants.{On, Read, Stop}
-use Rattle.replay_lines.specs.Input.{setup_of}
 use Rattle.replay_lines.specs.Lines.{line_room}
 use Rattle.replay_turns.specs.Passes.{Progress, none, behind, if_on, pass_of}
-use Rattle.replay.specs.declared.Printed.{Printed}
 
 -- ---- one part of the input
 
@@ -34,9 +33,14 @@ asks_more On = false
 asks_more Read = true
 asks_more Stop = false
 
--- What is known once the lines are written.
-unfoldable pub printed : Progress → Printed
-printed r = record { table = r.table; event = r.event; taken = r.taken; more = asks_more r.going }
+-- Once the lines are written: table and number are those of w, and r says how many bytes were taken where more input is asked for.
+unfoldable pub left_of : Progress → Option ℕ
+left_of w = pick (asks_more w.going) (Some w.taken) None
+
+pub record Printed (w : Progress) (t : List Server) (k : ℕ) (r : Option ℕ) : Type 0 where
+  pub table : t ≡ w.table
+  pub event : k ≡ w.event
+  pub left : r ≡ left_of w
 
 -- ---- the whole input
 
@@ -47,11 +51,14 @@ parts_from room t n event left (x ∷ xs) =
     let r : Progress = part_of room t n event (left ++ x) (length x =? 0) in
     r.text ++ pick (asks_more r.going) (parts_from room r.table n r.event (drop r.taken (left ++ x)) xs) []
 
--- What the program prints, of its first bytes and the parts behind them.
+-- What the program prints, of its set-up as it was read and the parts behind it.
+unfoldable pub printed_behind : (room : ℕ) → Reading Setup → List (List ℕ) → List ℕ
+printed_behind room (says s) parts = header ++ parts_from room (fresh_table s.servers s.quota) s.servers 1 [] parts
+printed_behind room (refused k) parts = setup_line k
+
+-- The same, of its first bytes.
 unfoldable pub printed_of : (room : ℕ) → (first : List ℕ) → List (List ℕ) → List ℕ
-printed_of room first parts =
-    let s : Setup = setup_of first in
-    pick (s.number =? 0) (header ++ parts_from room (fresh_table s.servers s.quota) s.servers 1 [] parts) (setup_line s.number)
+printed_of room first parts = printed_behind room (read_setup table_servers table_quota first) parts
 
 -- However the input behind its set-up record is cut into parts, and whatever room lines have, one at least: the program prints what
 -- document 01 says. Events are numbered in 64 bits: the input has fewer than 2 ^ 64 bytes.

@@ -3,173 +3,112 @@
 #![tactic(auto)]
 
 ghost use Rattle.std.specs.Prelude.{◌≡◌, ◌≤◌, ◌<◌, length};
-ghost use Rattle.io.specs.Counts.{IsPrefixLen};
-ghost use Rattle.replay_servers.specs.Core.{table_servers};
-ghost use Rattle.replay.specs.Parts.{part_of, printed, PrintsReplay};
+ghost use Rattle.replay.specs.Parts.{part_of, Printed, PrintsReplay};
 ghost use Rattle.replay.specs.Reading.{input_room, lines_room, Fed, Refilled};
 ghost use Rattle.replay.specs.Advancing.{Advanced, Served, ServesReplay};
 
-use octets::blocks::copy;
-use replay_lines::input::{Setup, read_setup};
-use replay_lines::line::{HEAD_ROOM, header_line, setup_line};
-use replay_servers::starting::begin;
-use replay_servers::{SERVERS, Server};
-use replay_turns::Going;
-use replay_turns::passes::pass;
-use std::io::{Read, Stdin};
+mod input; // input.rt: what is there of the input
 
-// More than a server byte and an event, which are at most 65,538 bytes.
-const INPUT_ROOM: usize = 131072;
+use arrayvec::ArrayString;
+use input::{INPUT_ROOM, Input};
+use octets::blocks::copy;
+use replay_lines::line::{header, push_refusal};
+use replay_lines::setup::Setup;
+use replay_turns::{Going, Replay};
+use std::io::{Read, Stdin};
 
 // Lines that are written at once.
 const LINES_ROOM: usize = 16384;
 
-// The table after a part of the input, the number of the next event, how many bytes were taken, and whether there may be more.
-#[derive(Clone, Copy)]
-struct Printed {
-    table: [Server; SERVERS],
-    event: u64,
-    taken: usize,
-    more: bool,
-}
+// The `setup` line.
+const HEAD_ROOM: usize = 64;
 
-// Every whole event of the input: one write for each pass.
-fn print_part(t: [Server; SERVERS], servers: u8, first: u64, input: &[u8], ended: bool) -> Printed
-    requires { servers ≤ table_servers }
-    ensures value { result ≡ printed (part_of lines_room t servers first input.now ended) }
+// Every whole event of the input: one write for each pass. How many bytes were taken, where there may be more.
+fn print_part(replay: &mut Replay, input: &[u8], ended: bool) -> Option<usize>
+    ensures printed { Printed (part_of lines_room replay.old.table replay.old.servers replay.old.event input.now ended)
+        replay.new.table replay.new.event result }
+    ensures servers { replay.new.servers ≡ replay.old.servers }
     ensures fed { Fed result input.now }
 {
-    let mut lines: [u8; LINES_ROOM] = [0; LINES_ROOM];
-    let mut table = t;
-    let mut event = first;
+    let mut lines = ArrayString::<LINES_ROOM>::new();
     let mut taken = 0;
     loop {
-        let r = pass(table, servers, event, &input[taken..], ended, &mut lines);
-        io::write_all(1, &lines[..r.length]);
-        let a = r.table;
-        table = a;
-        event = r.event;
-        taken += r.taken;
-        let going = r.going;
-        match going {
+        lines.clear();
+        let turn = replay.pass(&input[taken..], ended, &mut lines);
+        io::write_all(1, lines.as_str().as_bytes());
+        taken += turn.taken;
+        match turn.going {
             Going::On => {}
-            Going::Read => {
-                return Printed {
-                    table,
-                    event,
-                    taken,
-                    more: true,
-                };
-            }
-            Going::Stop => {
-                return Printed {
-                    table,
-                    event,
-                    taken,
-                    more: false,
-                };
-            }
+            Going::Read => return Some(taken),
+            Going::Stop => return None,
         }
     }
-}
-
-// Bytes that are read and not yet taken; whether the input has ended with them.
-#[derive(Clone, Copy)]
-struct Filled {
-    bytes: [u8; INPUT_ROOM],
-    count: usize,
-    ended: bool,
 }
 
 // What is read at once; a read that fails ends the input.
 fn read_some(mut stdin: Stdin, room: &mut [u8]) -> usize
     ensures { result ≤ length room.new }
 {
-    match stdin.read(room) {
-        Ok(n) => n,
-        Err(_) => 0,
+    stdin.read(room).unwrap_or(0)
+}
+
+impl Input {
+    // These bytes, and behind them what is read at once.
+    fn refill(stdin: Stdin, old: &[u8]) -> Input
+        requires { length old.now < input_room }
+        ensures { Refilled old.now result }
+    {
+        let mut bytes: [u8; INPUT_ROOM] = [0; INPUT_ROOM];
+        let m = old.len();
+        copy(&mut bytes, 0, old);
+        let n = read_some(stdin, &mut bytes[m..]);
+        Input {
+            bytes,
+            count: m + n,
+            ended: n == 0,
+        }
     }
 }
 
-// These bytes, and behind them what is read at once.
-fn refill(stdin: Stdin, old: &[u8]) -> Filled
-    requires { length old.now < input_room }
-    ensures { Refilled old.now result }
-{
-    let mut bytes: [u8; INPUT_ROOM] = [0; INPUT_ROOM];
-    let m = old.len();
-    copy(&mut bytes, 0, old);
-    let n = read_some(stdin, &mut bytes[m..]);
-    Filled {
-        bytes,
-        count: m + n,
-        ended: n == 0,
-    }
-}
-
-// Where the program stands between two reads: the table, the number of the next event, what is there of the input, and whether there
-// may be more.
-#[derive(Clone, Copy)]
+// Where the program stands between two reads: the servers, and what is there of the input.
+#[derive(Clone, Copy, Drop)]
 struct Standing {
-    table: [Server; SERVERS],
-    event: u64,
-    filled: Filled,
-    more: bool,
+    replay: Replay,
+    input: Input,
 }
 
-// The events that are there, and then what is read at once.
-fn advance(stdin: Stdin, servers: u8, s: Standing) -> Standing
-    requires { (servers ≤ table_servers) × IsPrefixLen s.filled.count s.filled.bytes }
-    ensures { Advanced servers s result }
-{
-    let filled = s.filled;
-    let bytes = filled.bytes;
-    let count = filled.count;
-    let table = s.table;
-    let r = print_part(table, servers, s.event, &bytes[..count], filled.ended);
-    let a = r.table;
-    if !r.more {
-        return Standing {
-            table: a,
-            event: r.event,
-            filled,
-            more: false,
-        };
-    }
-    let taken = r.taken;
-    let next = refill(stdin, &bytes[taken..count]);
-    Standing {
-        table: a,
-        event: r.event,
-        filled: next,
-        more: true,
+impl Standing {
+    // The events that are there, and then what is read at once; whether there may be more.
+    fn advance(&mut self, stdin: Stdin) -> bool
+        ensures { Advanced self.old self.new result }
+    {
+        let input = &self.input;
+        let there = &input.bytes[..input.count];
+        match print_part(&mut self.replay, there, input.ended) {
+            Some(taken) => {
+                self.input = Input::refill(stdin, &there[taken..]);
+                true
+            }
+            None => false,
+        }
     }
 }
 
-// Events from the input's start on, until it ends or is wrong.
-fn serve(stdin: Stdin, servers: u8, quota: u16) -> Standing
-    requires { servers ≤ table_servers }
-    ensures { Served servers quota result }
+// Events from the input's start on, until it ends or is wrong; whether there may be more.
+fn serve(stdin: Stdin, setup: Setup) -> bool
+    ensures { Served setup.servers setup.quota result }
 {
-    let table = begin(servers, quota);
-    let filled = refill(stdin, b"");
-    let mut s = Standing {
-        table,
-        event: 1,
-        filled,
-        more: true,
+    let mut standing = Standing {
+        replay: Replay::new(setup),
+        input: Input::refill(stdin, b""),
     };
     // Bounds how often is read: every input ends before that.
-    let mut left: u64 = 18446744073709551615;
-    while 0 < left {
-        left -= 1;
-        let r = advance(stdin, servers, s);
-        if !r.more {
-            return r;
+    for _left in 0..u64::MAX {
+        if !standing.advance(stdin) {
+            return false;
         }
-        s = r;
     }
-    s
+    true
 }
 
 // However the input is cut into parts, what is printed of them is what document 01 says.
@@ -187,14 +126,15 @@ fn main(rt: HostRuntime) {
     serves_replay();
     let mut head: [u8; Setup::SIZE] = [0; Setup::SIZE];
     let n = io::read_full(0, &mut head);
-    let s = read_setup(&head[..n]);
-    let mut out: [u8; HEAD_ROOM] = [0; HEAD_ROOM];
-    if s.number != 0 {
-        let k = setup_line(&mut out, s.number);
-        io::write_all(1, &out[..k]);
-        return;
+    match Setup::read(&head[..n]) {
+        Ok(setup) => {
+            io::write_all(1, header().as_bytes());
+            serve(rt.stdin(), setup);
+        }
+        Err(refusal) => {
+            let mut line = ArrayString::<HEAD_ROOM>::new();
+            push_refusal(&mut line, "setup", refusal);
+            io::write_all(1, line.as_str().as_bytes());
+        }
     }
-    let k = header_line(&mut out);
-    io::write_all(1, &out[..k]);
-    serve(rt.stdin(), s.servers, s.quota);
 }

@@ -1,196 +1,131 @@
--- Words in a buffer, one after another.
-use Prim.Native.Nat.{ℕ, ◌+◌, ◌≤◌}
-use mathlib.Core.Path.{◌≡◌, refl, sym, ap, ◌∙◌}
-use mathlib.Core.List.{List, ◌++◌, append_assoc}
-use native.Mathlib.Omega.{arith}
-use lib.ListN.{length, take, drop, length-append}
-use lib.Seq.{take_at, length-take-le}
-use Rattle.base.specs.Patched.{patched}
-use Rattle.base.proofs.PatchedLaws.{patched_length}
+-- Words behind a text, one after another.
+use Rattle.std.proofs.Common.{◌≡◌, ℕ, ◌+◌, ◌^◌, ◌≤◌, ◌<◌, List, [], ◌∷◌, ◌++◌, length, refl, sym, ap, ◌∙◌, append_assoc, arith, length-append}
+use Rattle.std.specs.Fmt as std
 use Rattle.base.specs.Text.{ascii, decimal}
-use mir.Syntax.{w64}
-use mir.Val.{Fits}
-use Rattle.io.specs.Counts.{IsPrefixLen}
-use Rattle.io.specs.Digits as io
-use Rattle.io.specs.Digits.{IsDigitCount}
-use Rattle.io.proofs.Counting.{prefix_len_of_le}
 use Rattle.base.proofs.TestLaws.{pick_ne}
 use Rattle.replication.specs.Machine.Types.{Mode, Non_prim, Reg_prim, Trans_prim, Exchange_states, Exchange_actions, Construct, No, Un}
-use Rattle.replication.specs.Replay.{mode_name, line, header, input_line, setup_line}
+use Rattle.replication.specs.Replay.{mode_name, line}
 use Rattle.image.specs.Header.{mode_number}
 use Rattle.image.specs.Decode.{mode_named}
 use Rattle.image.proofs.HeaderRead.{mode_named_lem}
 use Rattle.replay_lines.specs.declared.line.Shown.{Shown}
-use Rattle.replay_lines.specs.Lines.{head_room, Put, line_room, spaced, ended, front_text, state_text, back_text, shown_line}
-use Rattle.replay_lines.proofs.DecimalLaws.{digits_few, decimal_digits}
+use Rattle.replay_lines.specs.Lines.{Put, line_room, spaced, ended, pair_text, shown_line}
+use Rattle.replay_lines.proofs.DecimalLaws.{decimal_is}
 
-pub word_put : (w o o' : List ℕ) (at : ℕ) → at + length w ≤ length o → o' ≡ patched at w o → Put w (length w) at (at + length w) o o'
-unfolding patched
-word_put w o o' at h e =
-    let tail : List ℕ = drop (at + length w) o in
-    let head : length (take at o ++ w) ≡ at + length w = length-append (take at o) w
-    ∙ ap (λ (m : ℕ). m + length w) (length-take-le at o (omega arith)) in
-    record {
-      text = ap (take (at + length w)) (e ∙ sym (append_assoc (take at o) w tail)) ∙ take_at (take at o ++ w) tail (at + length w) head;
-      least = omega arith;
-      most = omega arith;
-      same = ap length e ∙ patched_length at w o h;
-    }
+word_put : (w o o₁ : List ℕ) (m : ℕ) → o₁ ≡ o ++ w → length w ≤ m → Put w m o o₁
+word_put w o o₁ m e h = record { text = e; most = omega (arith, ap length e, length-append o w) }
 
 -- One word, and another behind it.
-pub put_then : (w v : List ℕ) (m l at r k : ℕ) (o o₁ o₂ : List ℕ) → Put w m at r o o₁ → Put v l r k o₁ o₂ → Put (w ++ v) (m + l) at k o o₂
-put_then w v m l at r k o o₁ o₂ p q = record {
-  text = q.text ∙ ap (λ (x : List ℕ). x ++ v) p.text ∙ append_assoc (take at o) w v;
-  least = omega (arith, p.least, q.least);
+put_then : (w v : List ℕ) (m l : ℕ) (o o₁ o₂ : List ℕ) → Put w m o o₁ → Put v l o₁ o₂ → Put (w ++ v) (m + l) o o₂
+put_then w v m l o o₁ o₂ p q = record {
+  text = q.text ∙ ap (λ (x : List ℕ). x ++ v) p.text ∙ append_assoc o w v;
   most = omega (arith, p.most, q.most);
-  same = q.same ∙ p.same;
 }
 
-pub number_room : (d o : List ℕ) (v k at : ℕ) → Fits w64 v → IsDigitCount 10 1 v k → k ≡ length (take k d) → at + 20 ≤ length o
-    → at + length (take k d) ≤ length o
-number_room d o v k at h f e l = omega (arith, digits_few v k h f)
+-- The same text.
+put_as : (w v o o₁ : List ℕ) (m : ℕ) → Put w m o o₁ → w ≡ v → Put v m o o₁
+put_as w v o o₁ m p e = record { text = p.text ∙ ap (λ (x : List ℕ). o ++ x) e; most = p.most }
 
-pub number_put : (d o o₁ : List ℕ) (v k at r : ℕ) → Put (take k d) (length (take k d)) at r o o₁ → Fits w64 v → IsDigitCount 10 1 v k
-    → k ≡ length (take k d) → take k d ≡ io.last_digits 10 k v → Put (decimal v) 20 at r o o₁
-number_put d o o₁ v k at r p h f l e =
-    record {
-      text = p.text ∙ ap (λ (x : List ℕ). take at o ++ x) (e ∙ decimal_digits v k f);
-      least = p.least;
-      most = omega (arith, p.most, digits_few v k h f);
-      same = p.same;
-    }
+pub number_put : (v : ℕ) (t o o₁ : List ℕ) → v < 2 ^ 64 → t ≡ std.decimal v → length t ≤ 20 → o₁ ≡ o ++ t → Put (decimal v) 20 o o₁
+number_put v t o o₁ l e h p = put_as t (decimal v) o o₁ 20 (word_put t o o₁ 20 p h) (e ∙ sym (decimal_is v l))
 
-pub spaced_put : (v at r k : ℕ) (o o₁ o₂ : List ℕ) → Put (decimal v) 20 at r o o₁ → Put (ascii " ") (length (ascii " ")) r k o₁ o₂
-    → Put (spaced (decimal v)) 21 at k o o₂
+pub spaced_put : (v : ℕ) (o o₁ o₂ : List ℕ) → Put (decimal v) 20 o o₁ → o₂ ≡ o₁ ++ ascii " " → Put (spaced (decimal v)) 21 o o₂
 unfolding ascii spaced
-spaced_put v at r k o o₁ o₂ p q = put_then (decimal v) (ascii " ") 20 1 at r k o o₁ o₂ p q
+spaced_put v o o₁ o₂ p e = put_then (decimal v) (ascii " ") 20 1 o o₁ o₂ p (word_put (ascii " ") o₁ o₂ 1 e (omega arith))
 
-pub last_put : (v at r k : ℕ) (o o₁ o₂ : List ℕ) → Put (decimal v) 20 at r o o₁ → Put (ascii "\n") (length (ascii "\n")) r k o₁ o₂
-    → Put (ended (decimal v)) 21 at k o o₂
+pub last_put : (v : ℕ) (o o₁ o₂ : List ℕ) → Put (decimal v) 20 o o₁ → o₂ ≡ o₁ ++ ascii "\n" → Put (ended (decimal v)) 21 o o₂
 unfolding ascii ended
-last_put v at r k o o₁ o₂ p q = put_then (decimal v) (ascii "\n") 20 1 at r k o o₁ o₂ p q
+last_put v o o₁ o₂ p e = put_then (decimal v) (ascii "\n") 20 1 o o₁ o₂ p (word_put (ascii "\n") o₁ o₂ 1 e (omega arith))
 
--- A line can be lent.
-pub put_counts : (w o o₁ : List ℕ) (m l r : ℕ) → Put w m 0 r o o₁ → l ≤ length o → m ≤ l → IsPrefixLen r o₁
-put_counts w o o₁ m l r p h k = prefix_len_of_le r o₁ (omega (arith, p.most, p.same))
+pub pair_put : (w v o o₁ o₂ : List ℕ) → Put w 21 o o₁ → Put v 21 o₁ o₂ → Put (w ++ v) 42 o o₂
+pair_put w v o o₁ o₂ p q = put_then w v 21 21 o o₁ o₂ p q
 
 -- ---- the states' names
 
--- The word w, a space behind it, as the name of the state m.
-named_put : (m : Mode) (mode at r : ℕ) (w o o₁ : List ℕ) → mode_named mode ≡ m → w ≡ mode_name m ++ ascii " " → length w ≤ 17
-    → Put w (length w) at r o o₁ → Put (spaced (mode_name (mode_named mode))) 17 at r o o₁
-unfolding spaced
-named_put m mode at r w o o₁ e f h p = record {
-  text = p.text ∙ ap (λ (x : List ℕ). take at o ++ x) (f ∙ ap (λ (y : Mode). mode_name y ++ ascii " ") (sym e));
-  least = p.least;
-  most = omega (arith, p.most);
-  same = p.same;
-}
+module _ (mode : ℕ) where
+  named : (m : Mode) (w : List ℕ) → mode_named mode ≡ m → w ≡ mode_name m → w ≡ mode_name (mode_named mode)
+  named m w e f = f ∙ ap mode_name (sym e)
 
-module _ (mode at r : ℕ) (o o₁ : List ℕ) where
-  abbrev NamePut : Type 0
-  NamePut = Put (spaced (mode_name (mode_named mode))) 17 at r o o₁
+  abbrev Names : List ℕ → Type 0
+  Names w = w ≡ mode_name (mode_named mode)
 
-  abbrev WordPut : List ℕ → Type 0
-  WordPut w = Put w (length w) at r o o₁
-
-  pub reg_put : mode ≡ 1 → WordPut (ascii "Reg_prim ") → NamePut
+  pub reg_named : mode ≡ 1 → Names (ascii "Reg_prim")
   unfolding ascii mode_name mode_number
-  reg_put e p = named_put Reg_prim mode at r (ascii "Reg_prim ") o o₁ (ap mode_named e ∙ mode_named_lem Reg_prim) refl (omega arith) p
+  reg_named e = named Reg_prim (ascii "Reg_prim") (ap mode_named e ∙ mode_named_lem Reg_prim) refl
 
-  pub trans_put : mode ≡ 2 → WordPut (ascii "Trans_prim ") → NamePut
+  pub trans_named : mode ≡ 2 → Names (ascii "Trans_prim")
   unfolding ascii mode_name mode_number
-  trans_put e p = named_put Trans_prim mode at r (ascii "Trans_prim ") o o₁ (ap mode_named e ∙ mode_named_lem Trans_prim) refl (omega arith) p
+  trans_named e = named Trans_prim (ascii "Trans_prim") (ap mode_named e ∙ mode_named_lem Trans_prim) refl
 
-  pub states_put : mode ≡ 3 → WordPut (ascii "Exchange_states ") → NamePut
+  pub states_named : mode ≡ 3 → Names (ascii "Exchange_states")
   unfolding ascii mode_name mode_number
-  states_put e p = named_put Exchange_states mode at r (ascii "Exchange_states ") o o₁ (ap mode_named e ∙ mode_named_lem Exchange_states) refl
-      (omega arith) p
+  states_named e = named Exchange_states (ascii "Exchange_states") (ap mode_named e ∙ mode_named_lem Exchange_states) refl
 
-  pub actions_put : mode ≡ 4 → WordPut (ascii "Exchange_actions ") → NamePut
+  pub actions_named : mode ≡ 4 → Names (ascii "Exchange_actions")
   unfolding ascii mode_name mode_number
-  actions_put e p = named_put Exchange_actions mode at r (ascii "Exchange_actions ") o o₁ (ap mode_named e ∙ mode_named_lem Exchange_actions) refl
-      (omega arith) p
+  actions_named e = named Exchange_actions (ascii "Exchange_actions") (ap mode_named e ∙ mode_named_lem Exchange_actions) refl
 
-  pub construct_put : mode ≡ 5 → WordPut (ascii "Construct ") → NamePut
+  pub construct_named : mode ≡ 5 → Names (ascii "Construct")
   unfolding ascii mode_name mode_number
-  construct_put e p = named_put Construct mode at r (ascii "Construct ") o o₁ (ap mode_named e ∙ mode_named_lem Construct) refl (omega arith) p
+  construct_named e = named Construct (ascii "Construct") (ap mode_named e ∙ mode_named_lem Construct) refl
 
-  pub no_put : mode ≡ 6 → WordPut (ascii "No ") → NamePut
+  pub no_named : mode ≡ 6 → Names (ascii "No")
   unfolding ascii mode_name mode_number
-  no_put e p = named_put No mode at r (ascii "No ") o o₁ (ap mode_named e ∙ mode_named_lem No) refl (omega arith) p
+  no_named e = named No (ascii "No") (ap mode_named e ∙ mode_named_lem No) refl
 
-  pub un_put : mode ≡ 7 → WordPut (ascii "Un ") → NamePut
+  pub un_named : mode ≡ 7 → Names (ascii "Un")
   unfolding ascii mode_name mode_number
-  un_put e p = named_put Un mode at r (ascii "Un ") o o₁ (ap mode_named e ∙ mode_named_lem Un) refl (omega arith) p
+  un_named e = named Un (ascii "Un") (ap mode_named e ∙ mode_named_lem Un) refl
 
-  pub non_put : (mode ≡ 1 → ⊥) → (mode ≡ 2 → ⊥) → (mode ≡ 3 → ⊥) → (mode ≡ 4 → ⊥) → (mode ≡ 5 → ⊥) → (mode ≡ 6 → ⊥) → (mode ≡ 7 → ⊥)
-      → WordPut (ascii "Non_prim ") → NamePut
+  pub non_named : (mode ≡ 1 → ⊥) → (mode ≡ 2 → ⊥) → (mode ≡ 3 → ⊥) → (mode ≡ 4 → ⊥) → (mode ≡ 5 → ⊥) → (mode ≡ 6 → ⊥) → (mode ≡ 7 → ⊥)
+      → Names (ascii "Non_prim")
   unfolding ascii mode_name mode_named mode_number
-  non_put e₁ e₂ e₃ e₄ e₅ e₆ e₇ p =
-      named_put Non_prim mode at r (ascii "Non_prim ") o o₁
+  non_named e₁ e₂ e₃ e₄ e₅ e₆ e₇ =
+      named Non_prim (ascii "Non_prim")
       (sym
       (pick_ne mode 1 Non_prim _ _ e₁
       (pick_ne mode 2 Non_prim _ _ e₂
       (pick_ne mode 3 Non_prim _ _ e₃
       (pick_ne mode 4 Non_prim _ _ e₄ (pick_ne mode 5 Non_prim _ _ e₅ (pick_ne mode 6 Non_prim _ _ e₆ (pick_ne mode 7 Non_prim _ _ e₇ refl))))))))
-      refl (omega arith) p
+      refl
 
-pub ruleset mode_puts = (reg_put, trans_put, states_put, actions_put, construct_put, no_put, un_put, non_put)
+pub ruleset mode_names = (reg_named, trans_named, states_named, actions_named, construct_named, no_named, un_named, non_named)
 
--- ---- the parts of a line
+pub mode_put : (mode : ℕ) (t o o₁ o₂ : List ℕ) → t ≡ mode_name (mode_named mode) → length t ≤ 16 → o₁ ≡ o ++ t → o₂ ≡ o₁ ++ ascii " "
+    → Put (spaced (mode_name (mode_named mode))) 17 o o₂
+unfolding ascii spaced
+mode_put mode t o o₁ o₂ f h p e =
+    put_as (t ++ ascii " ") (spaced (mode_name (mode_named mode))) o o₂ 17
+    (put_then t (ascii " ") 16 1 o o₁ o₂ (word_put t o o₁ 16 p h) (word_put (ascii " ") o₁ o₂ 1 e (omega arith)))
+    (ap (λ (x : List ℕ). x ++ ascii " ") f)
 
-module _ (w v o o₁ o₂ : List ℕ) (at r k : ℕ) where
-  pub pair_put : Put w 21 at r o o₁ → Put v 21 r k o₁ o₂ → Put (w ++ v) 42 at k o o₂
-  pair_put p q = put_then w v 21 21 at r k o o₁ o₂ p q
+-- ---- whole lines
 
-  pub front_put : Put w 42 at r o o₁ → Put v 21 r k o₁ o₂ → Put (w ++ v) 63 at k o o₂
-  front_put p q = put_then w v 42 21 at r k o o₁ o₂ p q
+abbrev parts : Shown → List ℕ
+parts s =
+    pair_text s.number s.server
+    ++ (spaced (decimal s.returned)
+    ++ (spaced (mode_name (mode_named s.mode)) ++ (pair_text s.red s.green ++ (spaced (decimal s.prim) ++ ended (decimal s.sent)))))
 
-  pub state_put : Put w 17 at r o o₁ → Put v 42 r k o₁ o₂ → Put (w ++ v) 59 at k o o₂
-  state_put p q = put_then w v 17 42 at r k o o₁ o₂ p q
-
-  pub rest_put : Put w 59 at r o o₁ → Put v 42 r k o₁ o₂ → Put (w ++ v) 101 at k o o₂
-  rest_put p q = put_then w v 59 42 at r k o o₁ o₂ p q
-
--- The same text, which may be longer.
-put_as : (w v o o₁ : List ℕ) (m l at r : ℕ) → Put w m at r o o₁ → w ≡ v → m ≤ l → Put v l at r o o₁
-put_as w v o o₁ m l at r p e h = record {
-  text = p.text ∙ ap (λ (x : List ℕ). take at o ++ x) e;
-  least = p.least;
-  most = omega (arith, p.most);
-  same = p.same;
-}
-
-abbrev front_of : Shown → List ℕ
-front_of s = front_text s.number s.server s.returned
-
-abbrev rest_of : Shown → List ℕ
-rest_of s = state_text s.mode s.red s.green ++ back_text s.prim s.sent
-
-shown_parts : (s : Shown) → front_of s ++ rest_of s ≡ shown_line s
+shown_parts : (s : Shown) → parts s ≡ shown_line s
 unfolding shown_line line spaced ended
 shown_parts s = simp append_assoc
 
-pub line_put : (s : Shown) (o o₁ o₂ : List ℕ) (r k : ℕ) → Put (front_of s) 63 0 r o o₁ → Put (rest_of s) 101 r k o₁ o₂ → Put (shown_line s) line_room 0 k o o₂
-line_put s o o₁ o₂ r k p q =
-    put_as (front_of s ++ rest_of s) (shown_line s) o o₂ line_room line_room 0 k (put_then (front_of s) (rest_of s) 63 101 0 r k o o₁ o₂ p q) (shown_parts s)
-    (omega arith)
+pub line_put : (s : Shown) (o o₁ o₂ o₃ o₄ o₅ o₆ : List ℕ) → Put (pair_text s.number s.server) 42 o o₁ → Put (spaced (decimal s.returned)) 21 o₁ o₂
+    → Put (spaced (mode_name (mode_named s.mode))) 17 o₂ o₃ → Put (pair_text s.red s.green) 42 o₃ o₄ → Put (spaced (decimal s.prim)) 21 o₄ o₅
+    → Put (ended (decimal s.sent)) 21 o₅ o₆ → Put (shown_line s) line_room o o₆
+line_put s o o₁ o₂ o₃ o₄ o₅ o₆ p₁ p₂ p₃ p₄ p₅ p₆ =
+    let r₅ = put_then _ _ 21 21 o₄ o₅ o₆ p₅ p₆ in
+    let r₄ = put_then _ _ 42 42 o₃ o₄ o₆ p₄ r₅ in
+    let r₃ = put_then _ _ 17 84 o₂ o₃ o₆ p₃ r₄ in
+    let r₂ = put_then _ _ 21 101 o₁ o₂ o₆ p₂ r₃ in
+    put_as (parts s) (shown_line s) o o₆ line_room (put_then _ _ 42 122 o o₁ o₆ p₁ r₂) (shown_parts s)
 
-pub header_put : (o o₁ : List ℕ) (r : ℕ) → Put header (length header) 0 r o o₁ → Put header head_room 0 r o o₁
-unfolding header ascii
-header_put o o₁ r p = put_as header header o o₁ (length header) head_room 0 r p refl (omega arith)
-
-pub input_put : (k r l : ℕ) (o o₁ o₂ : List ℕ) → Put (ascii "input ") (length (ascii "input ")) 0 r o o₁ → Put (ended (decimal k)) 21 r l o₁ o₂
-    → Put (input_line k) head_room 0 l o o₂
-unfolding ascii input_line line ended
-input_put k r l o o₁ o₂ p q =
-    put_as (ascii "input " ++ ended (decimal k)) (input_line k) o o₂ 27 head_room 0 l
-    (put_then (ascii "input ") (ended (decimal k)) 6 21 0 r l o o₁ o₂ p q) refl (omega arith)
-
-pub setup_put : (k r l : ℕ) (o o₁ o₂ : List ℕ) → Put (ascii "setup ") (length (ascii "setup ")) 0 r o o₁ → Put (ended (decimal k)) 21 r l o₁ o₂
-    → Put (setup_line k) head_room 0 l o o₂
-unfolding ascii setup_line line ended
-setup_put k r l o o₁ o₂ p q =
-    put_as (ascii "setup " ++ ended (decimal k)) (setup_line k) o o₂ 27 head_room 0 l
-    (put_then (ascii "setup ") (ended (decimal k)) 6 21 0 r l o o₁ o₂ p q) refl (omega arith)
+pub refusal_put : (w : List ℕ) (k n : ℕ) (o o₁ o₂ o₃ : List ℕ) → o₁ ≡ o ++ w → o₂ ≡ o₁ ++ ascii " " → Put (ended (decimal k)) 21 o₂ o₃ → k ≡ n
+    → Put (line (w ∷ decimal n ∷ [])) (length w + 22) o o₃
+unfolding ascii line ended
+refusal_put w k n o o₁ o₂ o₃ e f p q =
+    let l : length w + (1 + 21) ≡ length w + 22 = omega arith in
+    let r = put_then w (ascii " " ++ ended (decimal k)) (length w) 22 o o₁ o₃ (word_put w o o₁ (length w) e (omega arith))
+    (put_then (ascii " ") (ended (decimal k)) 1 21 o₁ o₂ o₃ (word_put (ascii " ") o₁ o₂ 1 f (omega arith)) p) in
+    put_as (w ++ (ascii " " ++ ended (decimal k))) (line (w ∷ decimal n ∷ [])) o o₃ (length w + 22) r (ap (λ (x : ℕ). line (w ∷ decimal x ∷ [])) q)

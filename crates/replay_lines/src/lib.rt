@@ -2,4 +2,5 @@
 #![tactic(auto)]
 
 pub mod input; // input.rt: the set-up record, and what comes next
-pub mod line; // line.rt: lines, put into a lent buffer
+pub mod line; // line.rt: lines, each put behind a text
+pub mod setup; // setup.rt: what the set-up record says

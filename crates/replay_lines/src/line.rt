@@ -1,118 +1,77 @@
-// Lines, put into a lent buffer word by word. Each function takes the place where the line's text ends so far and answers where it
-// ends then.
-ghost use Rattle.std.specs.Prelude.{◌+◌, ◌≤◌, ◌++◌, length};
+// Lines, each put behind a text in memory of a fixed size.
+ghost use Rattle.std.specs.Prelude.{◌≡◌, ◌+◌, ◌≤◌, ◌++◌, [], ◌∷◌, length};
 ghost use Rattle.base.specs.Text.{decimal as decimal_of};
-ghost use Rattle.replication.specs.Replay.{mode_name, header, input_line, setup_line};
+ghost use Rattle.replication.specs.Replay.{mode_name, header, line};
 ghost use Rattle.image.specs.Decode.{mode_named};
-ghost use Rattle.replay_lines.specs.Lines.{head_room, Put, line_room, spaced, ended, pair_text, front_text, state_text, back_text, shown_line};
+ghost use Rattle.refusals.specs.Numbers.{refusal_number};
+ghost use Rattle.replay_lines.specs.Lines.{Put, line_room, spaced, ended, pair_text, shown_line};
 
-use octets::blocks::copy;
+use arrayvec::ArrayString;
+use itoa::Buffer;
 use record::State;
+use refusals::Refusal;
 
 // The most bytes that a line takes.
 pub const LINE_ROOM: usize = 164;
 
-// The most bytes that the header, the `input` line and the `setup` line take.
-pub const HEAD_ROOM: usize = 64;
-
-fn put_word(out: &mut [u8], at: usize, w: &[u8]) -> usize
-    requires { at + length w.now ≤ length out.old }
-    ensures { Put w.now (length w.now) at result out.old out.new }
+fn push_number<const N: usize>(out: &mut ArrayString<N>, v: u64)
+    requires { length out.old.bytes + 20 ≤ N }
+    ensures { Put (decimal_of v) 20 out.old.bytes out.new.bytes }
 {
-    copy(out, at, w);
-    at + w.len()
-}
-
-fn put_number(out: &mut [u8], at: usize, v: u64) -> usize
-    requires { at + 20 ≤ length out.old }
-    ensures { Put (decimal_of v) 20 at result out.old out.new }
-{
-    let mut digits = [0u8; 20];
-    let k = io::decimal(v, &mut digits);
-    put_word(out, at, &digits[..k])
+    let mut digits = Buffer::new();
+    out.push_str(digits.format(v));
 }
 
 // A number and a space.
-fn put_spaced(out: &mut [u8], at: usize, v: u64) -> usize
-    requires { at + 21 ≤ length out.old }
-    ensures { Put (spaced (decimal_of v)) 21 at result out.old out.new }
+fn push_spaced<const N: usize>(out: &mut ArrayString<N>, v: u64)
+    requires { length out.old.bytes + 21 ≤ N }
+    ensures { Put (spaced (decimal_of v)) 21 out.old.bytes out.new.bytes }
 {
-    let next = put_number(out, at, v);
-    put_word(out, next, b" ")
+    push_number(out, v);
+    out.push_str(" ");
 }
 
 // A number, and the line's end.
-fn put_last(out: &mut [u8], at: usize, v: u64) -> usize
-    requires { at + 21 ≤ length out.old }
-    ensures { Put (ended (decimal_of v)) 21 at result out.old out.new }
+fn push_last<const N: usize>(out: &mut ArrayString<N>, v: u64)
+    requires { length out.old.bytes + 21 ≤ N }
+    ensures { Put (ended (decimal_of v)) 21 out.old.bytes out.new.bytes }
 {
-    let next = put_number(out, at, v);
-    put_word(out, next, b"\n")
+    push_number(out, v);
+    out.push_str("\n");
 }
 
-// The state's name and a space.
-fn put_mode(out: &mut [u8], at: usize, mode: u8) -> usize
-    requires { at + 17 ≤ length out.old }
-    ensures { Put (spaced (mode_name (mode_named mode))) 17 at result out.old out.new }
+fn push_pair<const N: usize>(out: &mut ArrayString<N>, v: u64, w: u64)
+    requires { length out.old.bytes + 42 ≤ N }
+    ensures { Put (pair_text v w) 42 out.old.bytes out.new.bytes }
+{
+    push_spaced(out, v);
+    push_spaced(out, w);
+}
+
+// The name of the state that has this byte; Non_prim's of a byte that no state has.
+fn name_of(mode: u8) -> &'static str
+    ensures text { result.now ≡ mode_name (mode_named mode) }
+    ensures fits { length result.now ≤ 16 }
 {
     match mode {
-        State::REG_PRIM => put_word(out, at, b"Reg_prim "),
-        State::TRANS_PRIM => put_word(out, at, b"Trans_prim "),
-        State::EXCHANGE_STATES => put_word(out, at, b"Exchange_states "),
-        State::EXCHANGE_ACTIONS => put_word(out, at, b"Exchange_actions "),
-        State::CONSTRUCT => put_word(out, at, b"Construct "),
-        State::NO => put_word(out, at, b"No "),
-        State::UN => put_word(out, at, b"Un "),
-        _ => put_word(out, at, b"Non_prim "),
+        State::REG_PRIM => "Reg_prim",
+        State::TRANS_PRIM => "Trans_prim",
+        State::EXCHANGE_STATES => "Exchange_states",
+        State::EXCHANGE_ACTIONS => "Exchange_actions",
+        State::CONSTRUCT => "Construct",
+        State::NO => "No",
+        State::UN => "Un",
+        _ => "Non_prim",
     }
 }
 
-fn put_pair(out: &mut [u8], at: usize, v: u64, w: u64) -> usize
-    requires { at + 42 ≤ length out.old }
-    ensures { Put (pair_text v w) 42 at result out.old out.new }
+// The state's name and a space.
+fn push_mode<const N: usize>(out: &mut ArrayString<N>, mode: u8)
+    requires { length out.old.bytes + 17 ≤ N }
+    ensures { Put (spaced (mode_name (mode_named mode))) 17 out.old.bytes out.new.bytes }
 {
-    let next = put_spaced(out, at, v);
-    put_spaced(out, next, w)
-}
-
-fn put_front(out: &mut [u8], at: usize, number: u64, server: u64, returned: u64) -> usize
-    requires { at + 63 ≤ length out.old }
-    ensures { Put (front_text number server returned) 63 at result out.old out.new }
-{
-    let next = put_pair(out, at, number, server);
-    put_spaced(out, next, returned)
-}
-
-fn put_state(out: &mut [u8], at: usize, mode: u8, red: u64, green: u64) -> usize
-    requires { at + 59 ≤ length out.old }
-    ensures { Put (state_text mode red green) 59 at result out.old out.new }
-{
-    let next = put_mode(out, at, mode);
-    put_pair(out, next, red, green)
-}
-
-fn put_back(out: &mut [u8], at: usize, prim: u64, sent: u64) -> usize
-    requires { at + 42 ≤ length out.old }
-    ensures { Put (back_text prim sent) 42 at result out.old out.new }
-{
-    let next = put_spaced(out, at, prim);
-    put_last(out, next, sent)
-}
-
-fn put_rest(
-    out: &mut [u8],
-    at: usize,
-    mode: u8,
-    red: u64,
-    green: u64,
-    prim: u64,
-    sent: u64,
-) -> usize
-    requires { at + 101 ≤ length out.old }
-    ensures { Put (state_text mode red green ++ back_text prim sent) 101 at result out.old out.new }
-{
-    let next = put_state(out, at, mode, red, green);
-    put_back(out, next, prim, sent)
+    out.push_str(name_of(mode));
+    out.push_str(" ");
 }
 
 // What an event's line shows.
@@ -128,36 +87,34 @@ pub struct Shown {
     pub sent: u64,
 }
 
-// An event's line.
-pub fn event_line(out: &mut [u8], s: Shown) -> usize
-    requires { line_room ≤ length out.old }
-    ensures { Put (shown_line s) line_room 0 result out.old out.new }
-{
-    let next = put_front(out, 0, s.number, s.server, s.returned);
-    put_rest(out, next, s.mode, s.red, s.green, s.prim, s.sent)
+impl Shown {
+    // The event's line.
+    pub fn push_line<const N: usize>(&self, out: &mut ArrayString<N>)
+        requires { length out.old.bytes + line_room ≤ N }
+        ensures { Put (shown_line self.now) line_room out.old.bytes out.new.bytes }
+    {
+        push_pair(out, self.number, self.server);
+        push_spaced(out, self.returned);
+        push_mode(out, self.mode);
+        push_pair(out, self.red, self.green);
+        push_spaced(out, self.prim);
+        push_last(out, self.sent);
+    }
 }
 
-pub fn header_line(out: &mut [u8]) -> usize
-    requires { head_room ≤ length out.old }
-    ensures { Put header head_room 0 result out.old out.new }
+// The line above the events' lines.
+pub fn header() -> &'static str
+    ensures { result.now ≡ header }
 {
-    put_word(out, 0, b"event server returned state red green prim sent\n")
+    "event server returned state red green prim sent\n"
 }
 
-// "prints `input` and 2 or 1"
-pub fn input_line(out: &mut [u8], number: u8) -> usize
-    requires { head_room ≤ length out.old }
-    ensures { Put (input_line number) head_room 0 result out.old out.new }
+// A word and the refusal's number: "prints `input` and 2 or 1", "prints `setup` and its number (1 or 2)".
+pub fn push_refusal<const N: usize>(out: &mut ArrayString<N>, word: &str, refusal: Refusal)
+    requires { length out.old.bytes + (length word.now + 22) ≤ N }
+    ensures { Put (line (word.now ∷ decimal_of (refusal_number refusal) ∷ [])) (length word.now + 22) out.old.bytes out.new.bytes }
 {
-    let next = put_word(out, 0, b"input ");
-    put_last(out, next, number as u64)
-}
-
-// "prints `setup` and its number (1 or 2)"
-pub fn setup_line(out: &mut [u8], number: u8) -> usize
-    requires { head_room ≤ length out.old }
-    ensures { Put (setup_line number) head_room 0 result out.old out.new }
-{
-    let next = put_word(out, 0, b"setup ");
-    put_last(out, next, number as u64)
+    out.push_str(word);
+    out.push_str(" ");
+    push_last(out, u64::from(u32::from(refusal)));
 }

@@ -1,15 +1,16 @@
 -- One event at one server, as the code makes it.
 use Prim.Native.Nat.{ℕ, suc, ◌+◌, ◌-◌, ◌≤◌, ◌<◌}
+use Rattle.std.proofs.Common.{min}
+use Rattle.std.proofs.lemmas.List.{take_min, drop_min}
+use Rattle.base.proofs.Over.{rest_whole}
 use mathlib.Core.Path.{◌≡◌, refl, sym, ap, ap₂, ◌∙◌}
 use mathlib.Core.Bool.{Bool, true, false}
 use mathlib.Core.List.{List}
 use native.Mathlib.Omega.{arith}
-use lib.ListN.{length, take, drop, length-drop, drop_of_length-le}
-use lib.Seq.{take_all, drop-length, drop-drop}
+use lib.ListN.{length, take, drop, length-drop}
 use Rattle.format.specs.Places.{length_size}
 use Rattle.base.proofs.TestLaws.{pick_eq, pick_ne}
 use Rattle.base.specs.Bytes.{number_at, zeros}
-use Rattle.base.proofs.BytesLaws.{number_drop}
 use Rattle.image.specs.Outcome.{Result, step_on}
 use Rattle.daemons.specs.Buffers.{is_recovery, source_in, step_in}
 use Rattle.daemons.proofs.BufferLaws as laws
@@ -17,8 +18,7 @@ use Rattle.daemons.proofs.SendingLaws.{cut_short_lem, cut_next}
 use Rattle.step.specs.declared.Answer.{Answer}
 use Rattle.step.specs.Answers.{answered}
 use Rattle.replay_servers.specs.declared.Server.{Server}
-use Rattle.replay_servers.specs.declared.Stepped.{Stepped}
-use Rattle.replay_servers.specs.Core.{out_room, buffers_of, entry_after, records_in, after_step, core_of}
+use Rattle.replay_servers.specs.Core.{Stepped, out_room, buffers_of, entry_after, records_in, after_step, core_of, Alters}
 
 -- ---- records counted by their length bytes
 
@@ -31,23 +31,24 @@ records_none : (e : List ℕ) → length e < length_size → records_in e ≡ 0
 unfolding records_in
 records_none e h = ap length (cut_short_lem e h)
 
-pub count_again : (e : List ℕ) (at r n : ℕ) → at ≤ length e → length_size ≤ length e - at → drop r e ≡ drop (at + (number_at length_size e at + length_size)) e
-    → n + records_in (drop at e) ≡ records_in e → n + 1 + records_in (drop r e) ≡ records_in e
-count_again e at r n i h d g =
-    let l = length-drop at e in
-    let here : at + 0 ≡ at = omega arith in
-    let number : number_at length_size (drop at e) 0 ≡ number_at length_size e at = number_drop length_size e at 0 ∙ ap (number_at length_size e) here in
-    let behind : drop (number_at length_size (drop at e) 0 + length_size) (drop at e) ≡ drop r e
-    = ap (λ (m : ℕ). drop (m + length_size) (drop at e)) number ∙ drop-drop (number_at length_size e at + length_size) at e ∙ sym d in
-    omega (arith, records_next (drop at e) (omega arith), ap records_in behind)
+pub count_again : (e rest r : List ℕ) (n : ℕ) → length_size ≤ length rest → r ≡ drop (number_at length_size rest 0 + length_size) rest
+    → n + records_in rest ≡ records_in e → n + 1 + records_in r ≡ records_in e
+count_again e rest r n h d g = omega (arith, records_next rest h, ap records_in d)
 
-pub count_end : (e : List ℕ) (at n : ℕ) → length e - at < length_size → n + records_in (drop at e) ≡ records_in e → n ≡ records_in e
-count_end e at n h g =
-    let l = length-drop at e in
-    omega (arith, records_none (drop at e) (omega arith))
+pub count_less : (rest r : List ℕ) → length_size ≤ length rest → r ≡ drop (number_at length_size rest 0 + length_size) rest
+    → length r + length_size ≤ length rest
+count_less rest r h d = omega (arith, ap length d, length-drop (number_at length_size rest 0 + length_size) rest)
 
-pub count_whole : (e : List ℕ) (sent r : ℕ) → length e ≤ sent → r ≡ records_in e → r ≡ records_in (take sent e)
-count_whole e sent r h g = g ∙ ap records_in (sym (take_all sent e h))
+pub count_end : (e rest : List ℕ) (n : ℕ) → length rest < length_size → n + records_in rest ≡ records_in e → n ≡ records_in e
+count_end e rest n h g = omega (arith, records_none rest h)
+
+pub records_first : (e : List ℕ) (sent m r : ℕ) → m ≡ min sent (length e) → r ≡ records_in (take m e) → r ≡ records_in (take sent e)
+records_first e sent m r h g = g ∙ ap records_in (ap (λ (k : ℕ). take k e) h ∙ take_min sent e)
+
+pub behind_made : (e : List ℕ) (k m : ℕ) → k ≡ number_at length_size e 0 → m ≡ min (k + length_size) (length e)
+    → take (length e - m) (drop m e) ≡ drop (number_at length_size e 0 + length_size) e
+behind_made e k m h g =
+    rest_whole e m ∙ ap (λ (j : ℕ). drop j e) g ∙ drop_min (k + length_size) e ∙ ap (λ (j : ℕ). drop (j + length_size) e) h
 
 -- ---- the state that the event comes to
 
@@ -57,15 +58,6 @@ module _ (s : Server) (e : List ℕ) (t : Bool) (answer : t ≡ is_recovery e) w
 
   pub source_running : t ≡ false → s.state ≡ source_in (buffers_of s) e
   source_running h = laws.source_running (buffers_of s) e (sym answer ∙ h)
-
--- ---- the place behind a record
-
-pub behind_end : (e : List ℕ) (at size : ℕ) → length e - at - length_size < size → size ≡ number_at length_size e at
-    → drop (length e) e ≡ drop (at + (number_at length_size e at + length_size)) e
-behind_end e at size h g = drop-length e ∙ sym (drop_of_length-le e {i = at + (number_at length_size e at + length_size)} (omega arith))
-
-pub behind_inside : (e : List ℕ) (at size : ℕ) → size ≡ number_at length_size e at → drop (at + length_size + size) e ≡ drop (at + (number_at length_size e at + length_size)) e
-behind_inside e at size g = let place : at + length_size + size ≡ at + (number_at length_size e at + length_size) = omega arith in ap (λ (m : ℕ). drop m e) place
 
 -- ---- the entry afterwards
 
@@ -86,13 +78,14 @@ module _ (s : Server) (number store : ℕ) (b : List ℕ) where
       pick_eq number 0 (record { state = b; store = s.store }) _ _ h
       (ap (λ (l : List ℕ). record { state = b; store = l }) (pick_ne store 1 s.store b s.store g refl))
 
--- ---- the core
+-- ---- the event
 
-pub core_made : (s v : Server) (e b b₁ o o₁ : List ℕ) (a : Answer) (n : ℕ) → b ≡ source_in (buffers_of s) e → o ≡ zeros out_room
+pub taken : (s v : Server) (e b b₁ o o₁ : List ℕ) (a : Answer) (n : ℕ) → b ≡ source_in (buffers_of s) e → o ≡ zeros out_room
     → answered a b₁ o₁ ≡ step_on b e o → v ≡ entry_after s a.number a.store b₁ → n ≡ records_in (take a.sent o₁)
-    → record { server = v; reply = record { number = a.number; sent = n } } ≡ core_of s e
+    → Alters s e v (record { number = a.number; sent = n })
 unfolding core_of step_in after_step answered
-core_made s v e b b₁ o o₁ a n f z h g r =
+taken s v e b b₁ o o₁ a n f z h g r =
     let left : ◌≡◌ {A = Stepped} (record { server = v; reply = record { number = a.number; sent = n } }) (after_step s (answered a b₁ o₁))
     = λ i. record { server = g i; reply = record { number = a.number; sent = r i } } in
-    left ∙ ap (after_step s) (h ∙ ap₂ {A = List ℕ} {B = List ℕ} {C = Result} (λ x y. step_on x e y) f z)
+    let whole = left ∙ ap (after_step s) (h ∙ ap₂ {A = List ℕ} {B = List ℕ} {C = Result} (λ x y. step_on x e y) f z) in
+    (ap (λ (x : Stepped). x.reply) whole, ap (λ (x : Stepped). x.server) whole)

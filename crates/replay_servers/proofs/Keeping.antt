@@ -19,8 +19,7 @@ use Rattle.daemons.specs.Buffers.{step_in, kept_after}
 use Rattle.daemons.proofs.Keeping as keeping
 use Rattle.daemons.proofs.Arriving as arriving
 use Rattle.replay_servers.specs.declared.Server as declared
-use Rattle.replay_servers.specs.declared.Stepped.{Stepped}
-use Rattle.replay_servers.specs.Core.{out_room, buffers_of, entry_after, records_in, after_step, core_of}
+use Rattle.replay_servers.specs.Core.{Stepped, out_room, buffers_of, entry_after, records_in, after_step, core_of}
 use Rattle.replay_servers.proofs.CoreLaws.{kept_refused}
 
 -- Both buffers of the entry hold the images of the server's states, white actions blank, and the outgoing buffer has room for what an event puts out.

@@ -23,10 +23,10 @@ use Rattle.replay_servers.specs.Core.{table_servers, table_quota, state_room, ou
 
 -- ---- as the code makes it
 
-pub fresh_made : (n q k r : ℕ) (b z : List ℕ) → z ≡ zeros state_room → outcome.started r b ≡ start_on n q k z
+pub fresh_made : (n q k m p r : ℕ) (b z : List ℕ) → m ≡ n → p ≡ q → z ≡ zeros state_room → outcome.started r b ≡ start_on m p k z
     → record { state = b; store = b } ≡ fresh_of n q k
 unfolding fresh_of alike outcome.started
-fresh_made n q k r b z e h = ap (λ (x : outcome.Started). alike x.state) (h ∙ ap (start_on n q k) e)
+fresh_made n q k m p r b z f g e h = ap (λ (x : outcome.Started). alike x.state) (h ∙ (λ i. start_on (f i) (g i) k (e i)))
 
 pub table_made : (n q : ℕ) (a b c d : Server) → a ≡ fresh_of n q 0 → b ≡ fresh_of n q 1 → c ≡ fresh_of n q 2 → d ≡ fresh_of n q 3
     → a ∷ b ∷ c ∷ d ∷ [] ≡ fresh_table n q

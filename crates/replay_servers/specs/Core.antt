@@ -1,15 +1,14 @@
 -- What an event makes of a server, and the reply.
-use Rattle.std.specs.Prelude.{ℕ, ◌+◌, ◌*◌, ◌≤◌, ◌≡◌, List, length, take, drop}
+use Rattle.std.specs.Prelude.{ℕ, ◌+◌, ◌*◌, ◌≡◌, List, length, take}
 use Rattle.base.specs.Tests.{◌=?◌, pick}
-use Rattle.base.specs.Bytes.{number_at, zeros}
-use Rattle.format.specs.Places.{length_size, cut_size, id_size, state_head_size, most_retransmission}
+use Rattle.base.specs.Bytes.{zeros}
+use Rattle.format.specs.Places.{cut_size, id_size, state_head_size, most_retransmission}
 use Rattle.image.specs.Layout.{header_size, noted_size, slot_size}
 use Rattle.image.specs.Outcome.{Result}
 use Rattle.daemons.specs.Buffers.{Buffers, step_in}
 use Rattle.daemons.specs.Sending.{cut_records}
 use Rattle.replay_servers.specs.declared.Server.{Server}
 use Rattle.replay_servers.specs.declared.Reply.{Reply}
-use Rattle.replay_servers.specs.declared.Stepped.{Stepped}
 
 -- The table's servers at most, and their highest quota.
 abbrev pub table_servers : ℕ
@@ -39,17 +38,16 @@ unfoldable pub entry_after : Server → (number store : ℕ) → List ℕ → Se
 entry_after s number store state =
     pick (number =? 0) (record { state = state; store = pick (store =? 1) state s.store }) s
 
--- r is the place behind the record at `at`, by its length bytes, or the end where it would lie beyond.
-pub record Behind (e : List ℕ) (at r : ℕ) : Type 0 where
-  pub least : at + length_size ≤ r
-  pub most : r ≤ length e
-  pub rest : drop r e ≡ drop (at + (number_at length_size e at + length_size)) e
-
 -- How many records there are, by their length bytes.
 unfoldable pub records_in : List ℕ → ℕ
 records_in e = length (cut_records e)
 
--- The entry and the reply after a step with this result.
+-- The entry and the reply after an event.
+pub record Stepped : Type 0 where
+  pub server : Server
+  pub reply : Reply
+
+-- After a step with this result.
 unfoldable pub after_step : Server → Result → Stepped
 after_step s r = record {
   server = entry_after s r.number r.store r.state;

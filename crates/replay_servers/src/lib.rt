@@ -1,18 +1,20 @@
-// The servers of one program: one event at one server by value, and the table of servers, lent to one routine that alters the
-// named server's entry.
+// The servers of one program: one event at one server, and the table of servers, of which the named one takes the event.
 #![tactic(auto)]
 
 ghost use Rattle.std.specs.Prelude.{◌≡◌};
-ghost use Rattle.replay_servers.specs.Core.{core_of, Alters};
+ghost use Rattle.daemons.specs.Buffers.{source_in};
+ghost use Rattle.replay_servers.specs.Core.{buffers_of, entry_after, Alters};
 ghost use Rattle.replay_servers.specs.Table.{altered, replied};
 
+pub mod records; // records.rt: how many records were put out
 pub mod starting; // starting.rt: the table at the start
-pub mod stepping; // stepping.rt: what a step takes and leaves
 
+use burst::slices::is_recovery;
 use record::State;
 use record::events::StateHead;
+use records::records;
+use refusals::Refusal;
 use step::step_on;
-use stepping::{kept, records, source};
 
 // How many servers there are at most, and their highest quota.
 pub const SERVERS: usize = 4;
@@ -34,13 +36,6 @@ pub const STATE_ROOM: usize = State::SIZE
 
 pub const OUT_ROOM: usize = 2 * State::RETRANSMISSION * ACTIONS;
 
-// A server's state in memory and its stored state.
-#[derive(Clone, Copy)]
-pub struct Server {
-    pub state: [u8; STATE_ROOM],
-    pub store: [u8; STATE_ROOM],
-}
-
 // The number returned, and how many records were put out.
 #[derive(Clone, Copy)]
 pub struct Reply {
@@ -48,39 +43,49 @@ pub struct Reply {
     pub sent: usize,
 }
 
+// A server's state in memory and its stored state.
 #[derive(Clone, Copy)]
-pub struct Stepped {
-    pub server: Server,
-    pub reply: Reply,
+pub struct Server {
+    pub state: [u8; STATE_ROOM],
+    pub store: [u8; STATE_ROOM],
 }
 
-// One event at one server. "Recovery starts from that server's last stored image."
-pub fn core(s: Server, e: &[u8]) -> Stepped
-    ensures { result ≡ core_of s e.now }
-{
-    let mut state = source(s, e);
-    let mut out: [u8; OUT_ROOM] = [0; OUT_ROOM];
-    let a = step_on(&mut state, e, &mut out);
-    let server = kept(s, state, a.number, a.store);
-    let reply = Reply {
-        number: a.number,
-        sent: records(&out, a.sent),
-    };
-    Stepped { server, reply }
-}
+impl Server {
+    // The state that the event comes to. "Recovery starts from that server's last stored image."
+    fn source(&self, e: &[u8]) -> [u8; STATE_ROOM]
+        ensures { result ≡ source_in (buffers_of self.now) e.now }
+    {
+        if is_recovery(e) {
+            return self.store;
+        }
+        self.state
+    }
 
-// One entry is lent: the core is called by value, and the new entry is stored.
-pub fn alter(s: &mut Server, e: &[u8]) -> Reply
-    ensures { Alters s.old e.now s.new result }
-{
-    let old = *s;
-    let r = core(old, e);
-    let new = r.server;
-    let state = new.state;
-    let store = new.store;
-    s.state = state;
-    s.store = store;
-    r.reply
+    // Takes over the new state, stored too where the store word is 1; nothing where the event was refused.
+    fn keep(&mut self, state: [u8; STATE_ROOM], number: u32, store: u32)
+        ensures { self.new ≡ entry_after self.old number store state }
+    {
+        if number == 0 {
+            self.state = state;
+            if store == 1 {
+                self.store = state;
+            }
+        }
+    }
+
+    // One event.
+    pub fn take(&mut self, e: &[u8]) -> Reply
+        ensures { Alters self.old e.now self.new result }
+    {
+        let mut state = self.source(e);
+        let mut out: [u8; OUT_ROOM] = [0; OUT_ROOM];
+        let a = step_on(&mut state, e, &mut out);
+        self.keep(state, a.number, a.store);
+        Reply {
+            number: a.number,
+            sent: records(&out, a.sent),
+        }
+    }
 }
 
 // The table is lent: the entry is picked by its number. One that is not there is refused.
@@ -88,23 +93,11 @@ pub fn dispatch(t: &mut [Server], k: usize, e: &[u8]) -> Reply
     ensures { (result ≡ replied t.old k e.now) × (t.new ≡ altered t.old k e.now) }
 {
     if k < t.len() {
-        alter(&mut t[k], e)
+        t[k].take(e)
     } else {
-        Reply { number: 2, sent: 0 }
+        Reply {
+            number: u32::from(Refusal::OutOfRange),
+            sent: 0,
+        }
     }
-}
-
-#[derive(Clone, Copy)]
-pub struct Ran {
-    pub table: [Server; SERVERS],
-    pub reply: Reply,
-}
-
-// From a table by value to a table by value.
-pub fn run_one(t: [Server; SERVERS], k: usize, e: &[u8]) -> Ran
-    ensures { (result.reply ≡ replied t k e.now) × (result.table ≡ altered t k e.now) }
-{
-    let mut a = t;
-    let r = dispatch(&mut a, k, e);
-    Ran { table: a, reply: r }
 }

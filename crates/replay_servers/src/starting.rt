@@ -10,7 +10,7 @@ fn fresh(servers: u8, quota: u16, me: u32) -> Server
     ensures { result ≡ fresh_of servers quota me }
 {
     let mut state: [u8; STATE_ROOM] = [0; STATE_ROOM];
-    start(&mut state, servers as u32, quota as u32, me);
+    start(&mut state, u32::from(servers), u32::from(quota), me);
     Server {
         state,
         store: state,
@@ -21,9 +21,10 @@ fn fresh(servers: u8, quota: u16, me: u32) -> Server
 pub fn begin(servers: u8, quota: u16) -> [Server; SERVERS]
     ensures { result ≡ fresh_table servers quota }
 {
-    let a = fresh(servers, quota, 0);
-    let b = fresh(servers, quota, 1);
-    let c = fresh(servers, quota, 2);
-    let d = fresh(servers, quota, 3);
-    [a, b, c, d]
+    [
+        fresh(servers, quota, 0),
+        fresh(servers, quota, 1),
+        fresh(servers, quota, 2),
+        fresh(servers, quota, 3),
+    ]
 }

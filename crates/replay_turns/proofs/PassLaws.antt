@@ -6,7 +6,9 @@ use Rattle.base.specs.Bytes.{Bytes}
 use Rattle.base.proofs.BytesLaws.{number_lt, bytes_drop}
 use Rattle.replay_servers.specs.declared.Server.{Server}
 use Rattle.replay_lines.specs.declared.input.Next.{Next}
-use Rattle.replay_lines.specs.declared.input.Next.TheVariants.{Event, Wrong, More, Done}
+use Rattle.replay_lines.specs.declared.input.Next.TheVariants.{Event, More, Done}
+use Rattle.refusals.specs.declared.Refusal.{Refusal}
+use Rattle.std.specs.Prelude.{Result, Ok, Err}
 use Rattle.replay_turns.specs.declared.Going.{Going}
 use Rattle.replay_turns.specs.declared.Going.TheVariants.{On, Read, Stop}
 use Rattle.replay_lines.specs.Input.{next_of, event_room}
@@ -32,25 +34,25 @@ feeds_behind input ended g k j h f = record {
 }
 
 module _ (t : List Server) (n event : ℕ) (input : List ℕ) (ended : Bool) where
-  abbrev By : Next → Type 0
+  abbrev By : Result Next Refusal → Type 0
   By x = Feeds input ended (turn_by x t event input).going (turn_by x t event input).taken
       × ((turn_by x t event input).going ≡ On → 1 ≤ (turn_by x t event input).taken)
 
-  feeds_by : (x : Next) → Comes n input ended x → By x
+  feeds_by : (x : Result Next Refusal) → Comes n input ended x → By x
   unfolding turn_by
-  feeds_by (Event m) (whole j w) = (
+  feeds_by (Ok (Event m)) (whole j w) = (
     record { there = w.inside; waits = λ e. on_read On refl e; less = λ b e. on_read On refl e },
     λ e. omega arith,
   )
-  feeds_by (Wrong k) c = (
+  feeds_by (Err k) c = (
     record { there = omega arith; waits = λ e. read_stop Stop e refl; less = λ b e. read_stop Stop e refl },
     λ e. on_stop Stop e refl,
   )
-  feeds_by More (more e l) = (
+  feeds_by (Ok More) (more e l) = (
     record { there = omega arith; waits = λ g. e; less = λ b g. omega (arith, number_lt 2 input 1 b) },
     λ e. on_read Read e refl,
   )
-  feeds_by Done c = (
+  feeds_by (Ok Done) c = (
     record { there = omega arith; waits = λ e. read_stop Stop e refl; less = λ b e. read_stop Stop e refl },
     λ e. on_stop Stop e refl,
   )

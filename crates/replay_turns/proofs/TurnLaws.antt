@@ -1,10 +1,14 @@
 -- One event of the input, as the code makes it.
-use Rattle.std.proofs.Common.{◌≡◌, ℕ, ◌+◌, ◌-◌, ◌*◌, ◌<◌, ◌≤◌, Bool, List, length, get_or, take, drop, sym, ap, ◌∙◌, ap₂, arith}
+use Rattle.std.proofs.Common.{◌≡◌, ℕ, ◌+◌, ◌-◌, ◌*◌, ◌<◌, ◌≤◌, Bool, List, [], ◌∷◌, ◌++◌, length, get_or, take, drop, refl, sym, ap, subst, ◌∙◌, ap₂, append-nil, arith}
+use Rattle.std.specs.Prelude.{Result, Ok, Err}
+use Rattle.base.specs.Text.{ascii, decimal}
+use Rattle.refusals.specs.declared.Refusal.{Refusal}
+use Rattle.refusals.specs.Numbers.{refusal_number}
 use Rattle.replay_servers.specs.Core.{table_servers, state_room}
 use Rattle.base.specs.Bytes.{Bytes, number_at, part_at}
 use Rattle.base.proofs.BytesLaws.{number_lt}
 use Rattle.base.specs.Lists.{sum}
-use Rattle.replication.specs.Replay.{input_line}
+use Rattle.replication.specs.Replay.{line, input_line}
 use Rattle.format.specs.Places.{cut_size}
 use Rattle.image.specs.Layout.{header_size, at_servers, at_mode, at_queue_length, at_green_count, at_last}
 use Rattle.image.specs.Header.{header_in}
@@ -15,12 +19,12 @@ use Rattle.replay_servers.specs.declared.Reply.{Reply}
 use Rattle.replay_servers.specs.Table.{none, altered, replied}
 use Rattle.replay_lines.specs.declared.line.Shown.{Shown}
 use Rattle.replay_lines.specs.declared.input.Next.{Next}
-use Rattle.replay_lines.specs.declared.input.Next.TheVariants.{Event, Wrong, More, Done}
+use Rattle.replay_lines.specs.declared.input.Next.TheVariants.{Event, More, Done}
 use Rattle.replay_turns.specs.declared.Going.TheVariants.{On, Read, Stop}
 use Rattle.replay_turns.specs.declared.Turn.{Turn}
 use Rattle.replay_lines.specs.Input.{next_of}
-use Rattle.replay_lines.specs.Lines.{head_room, Put, line_room, shown_line}
-use Rattle.replay_turns.specs.Turns.{shown_of, line_at, Turned, turned, turn_by, turn_of}
+use Rattle.replay_lines.specs.Lines.{Put, line_room, shown_line}
+use Rattle.replay_turns.specs.Turns.{shown_of, line_at, Took, turn_by, turn_of}
 use Rattle.replay_lines.proofs.InputLaws.{whole_event}
 
 -- An entry of the table has room for as many cuts as a byte can say.
@@ -53,54 +57,62 @@ shown_made event server reply b held green prim entered white mode red h g p e w
       sent = reply.sent;
     }
 
-pub answer_made : (t t₁ : List Server) (event k r : ℕ) (e o o₁ : List ℕ) (reply : Reply) (s : Shown) → reply ≡ replied t k e → t₁ ≡ altered t k e
-    → s ≡ shown_of event k reply (get_or t₁ k none).state → Put (shown_line s) line_room 0 r o o₁ → Put (line_at t event k e) line_room 0 r o o₁
+pub answer_made : (t t₁ : List Server) (event k : ℕ) (e o o₁ : List ℕ) (reply : Reply) (s : Shown) → reply ≡ replied t k e → t₁ ≡ altered t k e
+    → s ≡ shown_of event k reply (get_or t₁ k none).state → Put (shown_line s) line_room o o₁ → Put (line_at t event k e) line_room o o₁
 unfolding line_at
-answer_made t t₁ event k r e o o₁ reply s f g h p = record {
-  text = p.text ∙ ap shown_line (h ∙ (λ i. shown_of event k (f i) (get_or (g i) k none).state));
-  least = p.least;
+answer_made t t₁ event k e o o₁ reply s f g h p = record {
+  text = p.text ∙ ap (λ (x : Shown). o ++ shown_line x) (h ∙ (λ i. shown_of event k (f i) (get_or (g i) k none).state));
   most = p.most;
-  same = p.same;
 }
 
 -- ---- one turn
 
-pub event_made : (t t₁ : List Server) (event size r : ℕ) (input o o₁ : List ℕ) → t₁ ≡ altered t (get_or input 0 0) (take (size + 1 - 1) (drop 1 input))
-    → Put (line_at t event (get_or input 0 0) (take (size + 1 - 1) (drop 1 input))) line_room 0 r o o₁
-    → turned (record { table = t₁; taken = size + 1; length = r; going = On }) o₁ ≡ turn_by (Event size) t event input
-unfolding turned turn_by part_at
-event_made t t₁ event size r input o o₁ f p =
-    let count : size + 1 - 1 ≡ size = omega arith in
-    let part : take (size + 1 - 1) (drop 1 input) ≡ take size (drop 1 input) = ap (λ (m : ℕ). take m (drop 1 input)) count in
-    let table_is : t₁ ≡ altered t (get_or input 0 0) (take size (drop 1 input)) = f ∙ ap (altered t (get_or input 0 0)) part in
-    let text_is : take r o₁ ≡ line_at t event (get_or input 0 0) (take size (drop 1 input)) = p.text ∙ ap (line_at t event (get_or input 0 0)) part in
-    λ i. record { table = table_is i; taken = size + 1; text = text_is i; going = On }
+module _ (n : ℕ) (input : List ℕ) (ended : Bool) (y : Next) (h : Ok y ≡ next_of n input ended) where
+  pub event_server : (size : ℕ) → y ≡ Event size → n ≤ table_servers → get_or input 0 0 < table_servers
+  event_server size e few = omega (arith, (whole_event n input ended size (sym h ∙ ap (λ (x : Next). Ok x) e)).server)
 
-module _ (n size : ℕ) (input : List ℕ) (ended : Bool) (x : Next) (is_x : x ≡ next_of n input ended) (is-event : x ≡ Event size) where
-  pub event_server : n ≤ table_servers → get_or input 0 0 < table_servers
-  event_server h = omega (arith, (whole_event n input ended size (sym is_x ∙ is-event)).server)
+  pub event_inside : (size : ℕ) → y ≡ Event size → size + 1 ≤ length input
+  event_inside size e = (whole_event n input ended size (sym h ∙ ap (λ (x : Next). Ok x) e)).inside
 
-  pub event_inside : size + 1 ≤ length input
-  event_inside = (whole_event n input ended size (sym is_x ∙ is-event)).inside
+-- Took, where x is what comes next.
+as_turn : (n : ℕ) (input : List ℕ) (ended : Bool) (t : List Server) (event : ℕ) (o : List ℕ) (x : Result Next Refusal) (t₁ : List Server) (r : Turn) (o₁ : List ℕ)
+    → x ≡ next_of n input ended → Took (turn_by x t event input) t₁ r o o₁ → Took (turn_of t n event input ended) t₁ r o o₁
+unfolding turn_of
+as_turn n input ended t event o x t₁ r o₁ e h = subst (λ (z : Result Next Refusal). Took (turn_by z t event input) t₁ r o o₁) e h
 
-module _ (t : List Server) (n event : ℕ) (input o o₁ : List ℕ) (ended : Bool) (x : Next) (is_x : x ≡ next_of n input ended) where
-  pub event_turn : (size : ℕ) (r : Turn) → x ≡ Event size → turned r o₁ ≡ turn_by (Event size) t event input
-      → turned r o₁ ≡ turn_of t n event input ended
-  unfolding turn_of
-  event_turn size r e h = h ∙ ap (λ (y : Next). turn_by y t event input) (sym e ∙ is_x)
+module _ (n : ℕ) (input : List ℕ) (ended : Bool) (t : List Server) (event : ℕ) (o : List ℕ) where
+  pub event_turn : (y : Next) (size : ℕ) (t₁ : List Server) (o₁ : List ℕ) → Ok y ≡ next_of n input ended → y ≡ Event size
+      → t₁ ≡ altered t (get_or input 0 0) (take (size + 1 - 1) (drop 1 input))
+      → Put (line_at t event (get_or input 0 0) (take (size + 1 - 1) (drop 1 input))) line_room o o₁
+      → Took (turn_of t n event input ended) t₁ (record { taken = size + 1; going = On }) o o₁
+  unfolding turn_by part_at
+  event_turn y size t₁ o₁ h e f p =
+      let count : size + 1 - 1 ≡ size = omega arith in
+      let part : take (size + 1 - 1) (drop 1 input) ≡ take size (drop 1 input) = ap (λ (m : ℕ). take m (drop 1 input)) count in
+      as_turn n input ended t event o (Ok (Event size)) t₁ (record { taken = size + 1; going = On }) o₁ (ap (λ (x : Next). Ok x) (sym e) ∙ h)
+      (record {
+        table = f ∙ ap (altered t (get_or input 0 0)) part;
+        taken = refl;
+        going = refl;
+        text = p.text ∙ ap (λ (x : List ℕ). o ++ line_at t event (get_or input 0 0) x) part;
+        most = p.most;
+      })
 
-  pub wrong_turn : (k r : ℕ) → x ≡ Wrong k → Put (input_line k) head_room 0 r o o₁
-      → turned (record { table = t; taken = 0; length = r; going = Stop }) o₁ ≡ turn_of t n event input ended
-  unfolding turn_of turned turn_by
-  wrong_turn k r e p =
-      let left : ◌≡◌ {A = Turned} (record { table = t; taken = 0; text = take r o₁; going = Stop }) (turn_by (Wrong k) t event input)
-      = λ i. record { table = t; taken = 0; text = p.text i; going = Stop } in
-      left ∙ ap (λ (y : Next). turn_by y t event input) (sym e ∙ is_x)
+  pub wrong_turn : (k : Refusal) (o₁ : List ℕ) → Err k ≡ next_of n input ended → Put (line (ascii "input" ∷ decimal (refusal_number k) ∷ [])) 27 o o₁
+      → Took (turn_of t n event input ended) t (record { taken = 0; going = Stop }) o o₁
+  unfolding turn_by input_line
+  wrong_turn k o₁ h p =
+      as_turn n input ended t event o (Err k) t (record { taken = 0; going = Stop }) o₁ h
+      (record { table = refl; taken = refl; going = refl; text = p.text; most = omega (arith, p.most) })
 
-  pub more_turn : x ≡ More → turned (record { table = t; taken = 0; length = 0; going = Read }) o ≡ turn_of t n event input ended
-  unfolding turn_of turned turn_by
-  more_turn e = ap (λ (y : Next). turn_by y t event input) (sym e ∙ is_x)
+  pub more_turn : (y : Next) → Ok y ≡ next_of n input ended → y ≡ More → Took (turn_of t n event input ended) t (record { taken = 0; going = Read }) o o
+  unfolding turn_by
+  more_turn y h e =
+      as_turn n input ended t event o (Ok More) t (record { taken = 0; going = Read }) o (ap (λ (x : Next). Ok x) (sym e) ∙ h)
+      (record { table = refl; taken = refl; going = refl; text = sym (append-nil o); most = omega arith })
 
-  pub done_turn : x ≡ Done → turned (record { table = t; taken = 0; length = 0; going = Stop }) o ≡ turn_of t n event input ended
-  unfolding turn_of turned turn_by
-  done_turn e = ap (λ (y : Next). turn_by y t event input) (sym e ∙ is_x)
+  pub done_turn : (y : Next) → Ok y ≡ next_of n input ended → y ≡ Done → Took (turn_of t n event input ended) t (record { taken = 0; going = Stop }) o o
+  unfolding turn_by
+  done_turn y h e =
+      as_turn n input ended t event o (Ok Done) t (record { taken = 0; going = Stop }) o (ap (λ (x : Next). Ok x) (sym e) ∙ h)
+      (record { table = refl; taken = refl; going = refl; text = sym (append-nil o); most = omega arith })

@@ -1,10 +1,10 @@
 -- Turns one after another, as far as the input and the room for lines go.
-use Rattle.std.specs.Prelude.{ℕ, zero, suc, ◌+◌, ◌-◌, ◌%◌, ◌^◌, Bool, List, [], ◌++◌, length, take, drop}
+use Rattle.std.specs.Prelude.{ℕ, zero, suc, ◌+◌, ◌-◌, ◌%◌, ◌^◌, ◌≡◌, Bool, List, [], ◌++◌, length, drop}
 use Rattle.base.specs.Tests.{◌<?◌, pick}
 use Rattle.replay_servers.specs.declared.Server.{Server}
 use Rattle.replay_turns.specs.declared.Going.{Going}
 use Rattle.replay_turns.specs.declared.Going.TheVariants.{On, Read, Stop}
-use Rattle.replay_turns.specs.declared.passes.Passed.{Passed}
+use Rattle.replay_turns.specs.declared.Turn.{Turn}
 use Rattle.replay_lines.specs.Lines.{line_room}
 use Rattle.replay_turns.specs.Turns.{Turned, turn_of}
 
@@ -54,6 +54,11 @@ pass_from (suc d) t n event input ended room =
 unfoldable pub pass_of : List Server → (n event : ℕ) → List ℕ → Bool → (room : ℕ) → Progress
 pass_of t n event input ended room = pass_from (suc (length input)) t n event input ended room
 
--- What a pass leaves, its lines in o.
-unfoldable pub passed : Passed → List ℕ → Progress
-passed r o = record { table = r.table; event = r.event; taken = r.taken; text = take r.length o; going = r.going }
+-- The turns w are taken: t and k are their table and number, their lines stand behind the text o, and r says how many bytes they took and
+-- what comes after them.
+pub record Passed (w : Progress) (t : List Server) (k : ℕ) (r : Turn) (o o' : List ℕ) : Type 0 where
+  pub table : t ≡ w.table
+  pub event : k ≡ w.event
+  pub taken : r.taken ≡ w.taken
+  pub going : r.going ≡ w.going
+  pub text : o' ≡ o ++ w.text

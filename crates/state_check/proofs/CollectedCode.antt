@@ -19,7 +19,6 @@ use Rattle.record.specs.Events.{state_from, record_of}
 use Rattle.reader.specs.Reading.{meaning}
 use Rattle.record.specs.Values.{state_of}
 use Rattle.record.specs.declared.Context.{Context}
-use Rattle.record.specs.declared.events.ActionAt.{ActionAt}
 use Rattle.record.specs.declared.events.StateAt.{StateAt}
 use Rattle.record.specs.declared.events.Event.{Event}
 use Rattle.record.specs.declared.events.Event.TheVariants.{Action, Retransmission, State, Cpc, Regular, Transitional, Request, Recovery}
@@ -36,34 +35,6 @@ module _ (k i : ℕ) (v : Event) (e : List ℕ) where
   answers_as : (w : Event) (r : Bool) → v ≡ w → r ≡ is_state k i (record_of w e) → r ≡ is_state k i (record_of v e)
   answers_as w r f h = rw f h
 
-  pub no_action : (a : ActionAt) → v ≡ Action a → false ≡ is_state k i (record_of v e)
-  unfolding is_state record_of
-  no_action a f = answers_as (Action a) false f refl
-
-  pub no_retransmission : (s p : ℕ) (a : ActionAt) → v ≡ Retransmission s p a → false ≡ is_state k i (record_of v e)
-  unfolding is_state record_of
-  no_retransmission s p a f = answers_as (Retransmission s p a) false f refl
-
-  pub no_cpc : (s j : ℕ) → v ≡ Cpc s j → false ≡ is_state k i (record_of v e)
-  unfolding is_state record_of
-  no_cpc s j f = answers_as (Cpc s j) false f refl
-
-  pub no_regular : (j s : ℕ) → v ≡ Regular j s → false ≡ is_state k i (record_of v e)
-  unfolding is_state record_of
-  no_regular j s f = answers_as (Regular j s) false f refl
-
-  pub no_transitional : (s : ℕ) → v ≡ Transitional s → false ≡ is_state k i (record_of v e)
-  unfolding is_state record_of
-  no_transitional s f = answers_as (Transitional s) false f refl
-
-  pub no_request : (at m : ℕ) → v ≡ Request at m → false ≡ is_state k i (record_of v e)
-  unfolding is_state record_of
-  no_request at m f = answers_as (Request at m) false f refl
-
-  pub no_recovery : v ≡ Recovery → false ≡ is_state k i (record_of v e)
-  unfolding is_state record_of
-  no_recovery f = answers_as Recovery false f refl
-
   pub other_sender : (s : StateAt) → v ≡ State s → (s.head.sender ≡ k → ⊥) → false ≡ is_state k i (record_of v e)
   unfolding is_state record_of state_from state_of
   other_sender s f h = answers_as (State s) false f (and_no (s.head.sender =? k) (s.head.configuration =? i) (eq_no _ _ h))
@@ -71,6 +42,17 @@ module _ (k i : ℕ) (v : Event) (e : List ℕ) where
   pub this_sender : (s : StateAt) → v ≡ State s → s.head.sender ≡ k → eqb s.head.configuration i ≡ is_state k i (record_of v e)
   unfolding is_state record_of state_from state_of
   this_sender s f h = answers_as (State s) _ f (and_yes _ (s.head.sender =? k) (s.head.configuration =? i) (eq_yes _ _ h) (told_eq s.head.configuration i))
+
+pub other_event : (k i : ℕ) (v : Event) (e : List ℕ) → ((s : StateAt) → v ≡ State s → ⊥) → false ≡ is_state k i (record_of v e)
+unfolding is_state record_of
+other_event k i (Action a) e n = refl
+other_event k i (Retransmission s p a) e n = refl
+other_event k i (State s) e n = absurd (n s refl)
+other_event k i (Cpc s j) e n = refl
+other_event k i (Regular j s) e n = refl
+other_event k i (Transitional s) e n = refl
+other_event k i (Request at m) e n = refl
+other_event k i Recovery e n = refl
 
 -- ---- by the reading
 

@@ -7,8 +7,7 @@ use mathlib.Core.List.{List}
 use native.Mathlib.Omega.{arith}
 use lib.Bits.{bit_and, bit_or, and_mask, and_zero_r, or_zero_r, or_add_and, and_le_l, and_le_r}
 use lib.Dec.{eqb}
-use lib.ListN.{length, get_or, set, length-set, replicate, length-replicate}
-use lib.Seq.{get_or-set_same, get_or-set_other}
+use lib.ListN.{length, get_or, replicate, length-replicate}
 use mir.Syntax.{w8}
 use mir.Val.{Fits}
 use Rattle.base.specs.Bytes.{zero_at}
@@ -103,17 +102,3 @@ masks_start = record {
   payload = λ i h. replicate_at 0 (most_payload_limit + payload_space) i;
   behind = λ i h k. absurd (omega arith);
 }
-
-pub masks_again : (t : List ℕ) (j : ℕ) → MasksTo j t → most_payload_limit ≤ j → j < most_payload_limit + payload_space → MasksTo (j + 1) (set t j 255)
-masks_again t j m h l = record {
-  long = length-set t j 255 ∙ m.long;
-  payload = λ i k. get_or-set_other t j i 255 0 (λ e. omega arith) ∙ m.payload i k;
-  behind = λ i k n. here i k n (known (i =? j));
-}
-  where
-    here : (i : ℕ) → most_payload_limit ≤ i → i < j + 1 → Known (i =? j) → get_or (set t j 255) i 0 ≡ 255
-    here i k n (holds y) = let e = eq_holds i j y in rw e (get_or-set_same t j 255 0 (omega (arith, m.long)))
-    here i k n (fails y) = get_or-set_other t j i 255 0 (eq_fails i j y) ∙ m.behind i k (let z = eq_fails i j y in omega arith)
-
-pub masks_end : (t : List ℕ) (j : ℕ) → MasksTo j t → most_payload_limit + payload_space ≤ j → Masks t
-masks_end t j m h = record { payload = m.payload; behind = λ i k n. m.behind i k (omega arith) }

@@ -15,6 +15,7 @@ pub mod Rewritten
 pub mod LogBack
 pub mod Back
 pub mod ReadsLaw
+pub mod Loops
 pub mod Gathered
 pub mod SlotCode
 pub mod QueueCode
@@ -23,4 +24,5 @@ pub mod NumberCode
 pub mod CollectedCode
 pub mod SectionCode
 pub mod CheckCode
+pub mod ModeCode
 pub mod NumberAnswer

@@ -8,7 +8,7 @@ use lib.Dec.{ltb}
 use lib.ListN.{length}
 use borrow.Author.Tests.{not-true, not-false}
 use Rattle.base.specs.Tests.{◌<?◌, pick}
-use Rattle.base.proofs.TestLaws.{pick_yes, pick_no, and_no, lt_yes, lt_no, lt_fails, Known, holds, fails, known}
+use Rattle.base.proofs.TestLaws.{pick_yes, pick_no, and_no, lt_fails, Known, holds, fails, known}
 use Rattle.base.proofs.Branches.{told_lt, or_yes, or_no}
 use Rattle.base.specs.Bytes.{Bytes, number_at}
 use Rattle.base.specs.Lists.{sum}

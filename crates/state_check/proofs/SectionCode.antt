@@ -30,17 +30,33 @@ unfolding numbers_at sum
 sum_step zero b at h = absurd (omega arith)
 sum_step (suc m) b at h = let e : suc m - 1 ≡ m = omega arith in rw e
 
-pub sum_start : (n : ℕ) (b : List ℕ) (at : ℕ) → 0 + sum (numbers_at 2 n b at) ≡ sum (numbers_at 2 n b at)
-sum_start n b at = omega arith
+-- The first k of n were added.
+module _ (n : ℕ) (b : List ℕ) (at : ℕ) where
+  pub sum_start : 0 + sum (numbers_at 2 (n - 0) b (at + 2 * 0)) ≡ sum (numbers_at 2 n b at)
+  sum_start =
+      let x : n - 0 ≡ n = omega arith in
+      let y : at + 2 * 0 ≡ at = omega arith in
+      rw (x, y) (omega arith)
 
-pub sum_again : (v total x m : ℕ) (b : List ℕ) (at : ℕ) → total + sum (numbers_at 2 m b at) ≡ v → 0 < m → x ≡ number_at 2 b at
-    → total + x + sum (numbers_at 2 (m - 1) b (at + 2)) ≡ v
-sum_again v total x m b at h l e = omega (arith, sum_step m b at l)
+  module _ (k total v : ℕ) (e : total + sum (numbers_at 2 (n - k) b (at + 2 * k)) ≡ v) where
+    pub sum_again : (x : ℕ) → k < n → x ≡ number_at 2 b (at + 2 * k) → total + x + sum (numbers_at 2 (n - (k + 1)) b (at + 2 * (k + 1))) ≡ v
+    sum_again x h f =
+        let y : n - k - 1 ≡ n - (k + 1) = omega arith in
+        let z : at + 2 * k + 2 ≡ at + 2 * (k + 1) = omega arith in
+        let split : sum (numbers_at 2 (n - k) b (at + 2 * k)) ≡ number_at 2 b (at + 2 * k) + sum (numbers_at 2 (n - (k + 1)) b (at + 2 * (k + 1))) =
+        sum_step (n - k) b (at + 2 * k) (omega arith) ∙ (λ i. number_at 2 b (at + 2 * k) + sum (numbers_at 2 (y i) b (z i))) in
+        omega (arith, split)
 
-pub sum_end : (v total m : ℕ) (b : List ℕ) (at : ℕ) → total + sum (numbers_at 2 m b at) ≡ v → m ≤ 0 → total ≡ v
-unfolding numbers_at sum
-sum_end v total zero b at h l = omega arith
-sum_end v total (suc m) b at h l = absurd (omega arith)
+    pub sum_end : n ≤ k → total ≡ v
+    unfolding numbers_at sum
+    sum_end h =
+        let none : n - k ≡ 0 = omega arith in
+        let nothing : sum (numbers_at 2 (n - k) b (at + 2 * k)) ≡ 0 = ap (λ (i : ℕ). sum (numbers_at 2 i b (at + 2 * k))) none in
+        omega (arith, nothing)
+
+-- What follows from the sizes of the buffer follows from those of its context.
+pub by_sizes : (c : Context) (n q k at : ℕ) → (n ≡ c.servers) × (q ≡ c.quota) → at ≡ offset n q k → at ≡ offset c.servers c.quota k
+by_sizes c n q k at h e = e ∙ (λ i. offset (h.0 i) (h.1 i) k)
 
 -- ---- rooms, as the callees ask for them
 

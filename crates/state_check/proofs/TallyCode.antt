@@ -5,16 +5,15 @@ use mathlib.Core.Bool.{Bool, true, false, not}
 use mathlib.Core.List.{List, [], ◌∷◌}
 use native.Mathlib.Nat.{mul-le-mul}
 use native.Mathlib.Omega.{arith}
-use borrow.Author.Tests.{not-true, not-false}
 use mir.Syntax.{w16}
 use mir.Val.{Fits}
-use lib.ListN.{length, get_or, set, replicate, length-set, length-replicate}
+use lib.ListN.{length, get_or, set, length-set}
 use lib.Seq.{get_or-set_same, get_or-set_other}
 use Rattle.base.specs.Tests.{◌≤?◌, ◌=?◌, pick}
 use Rattle.base.proofs.TestLaws.{and_holds, and_yes, and_no, eq_holds, eq_fails, eq_yes, eq_no, le_yes, le_no, le_holds, Known, known, holds, fails}
 use Rattle.base.specs.Bytes.{number_at}
 use Rattle.base.specs.Lists.{every_at, Each}
-use Rattle.base.proofs.ListLaws.{replicate_at, each_implied}
+use Rattle.base.proofs.ListLaws.{each_implied}
 use Rattle.base.proofs.Entries.{every_again, every_denied, every_end, every_each, each_every}
 use Rattle.base.proofs.Branches.{same_truth}
 use Rattle.format.specs.Limits.{most_servers_limit, most_ids}
@@ -73,34 +72,19 @@ pub record Counted (m : ℕ) (b : List ℕ) (at left here : ℕ) (t : List ℕ) 
   pub long : length t ≡ most_servers_limit
   pub counts : (k : ℕ) → k < most_servers_limit → get_or t k 0 + of_creator k (actions_at left b here) ≡ of_creator k (actions_at m b at)
 
-pub counted_start : (m : ℕ) (b : List ℕ) (at : ℕ) → TallyRoom m b at → Counted m b at m at (replicate {A = ℕ} most_servers_limit 0)
-counted_start m b at r = record {
-  few = r.few;
-  inside = r.inside;
-  creators = r.creators;
-  long = length-replicate {A = ℕ} most_servers_limit 0;
-  counts = λ k l. omega (arith, replicate_at {A = ℕ} 0 most_servers_limit k);
-}
-
 module _ (m : ℕ) (b : List ℕ) (at left here : ℕ) (t : List ℕ) (r : Counted m b at left here t) (h : 0 < left) where
   behind : (l : List Action) → actions_at left b here ≡ l → Each (λ a. a.id.creator < most_servers_limit) l
   behind l e = subst (Each (λ a. a.id.creator < most_servers_limit)) e r.creators
 
-  pub counted_first : here + 1 ≤ length b
-  counted_first = omega (arith, r.inside)
-
-  pub counted_next : here + slot_size ≤ length b
-  counted_next = omega (arith, r.inside)
-
-  pub counted_creator : (x : ℕ) → x ≡ number_at 1 b here → x < most_servers_limit
+  counted_creator : (x : ℕ) → x ≡ number_at 1 b here → x < most_servers_limit
   unfolding action_at id_at
   counted_creator x e = omega (arith, e, (behind _ (first_is_lem b here left h)).0)
 
-  pub counted_room : (x : ℕ) → x ≡ number_at 1 b here → Fits w16 (get_or t x 0 + 1)
+  counted_room : (x : ℕ) → x ≡ number_at 1 b here → Fits w16 (get_or t x 0 + 1)
   counted_room x e =
       omega (arith, r.counts x (counted_creator x e), own_more b here left x h e, of_most x (actions_at m b at), actions_count m b at, r.few)
 
-  pub counted_again : (x : ℕ) → x ≡ number_at 1 b here → Counted m b at (left - 1) (here + slot_size) (set t x (get_or t x 0 + 1))
+  counted_again : (x : ℕ) → x ≡ number_at 1 b here → Counted m b at (left - 1) (here + slot_size) (set t x (get_or t x 0 + 1))
   counted_again x e = record {
     few = r.few;
     inside = omega (arith, r.inside);
@@ -117,18 +101,35 @@ module _ (m : ℕ) (b : List ℕ) (at left here : ℕ) (t : List ℕ) (r : Count
           let p = eq_fails k x z in
           omega (arith, get_or-set_other t x k (get_or t x 0 + 1) 0 p, other_more b here left k h (λ q. p (q ∙ sym e)), r.counts k l)
 
-pub counted_end : (m : ℕ) (b : List ℕ) (at left here : ℕ) (t : List ℕ) → Counted m b at left here t → left ≤ 0 → Tally (actions_at m b at) t
+-- k of them were counted.
+module _ (m : ℕ) (b : List ℕ) (at : ℕ) where
+  module _ (k : ℕ) (t : List ℕ) (r : Counted m b at (m - k) (at + slot_size * k) t) (h : k < m) where
+    module _ (x : ℕ) (e : x ≡ number_at 1 b (at + slot_size * k)) where
+      pub tally_creator : x < most_servers_limit
+      tally_creator = counted_creator m b at (m - k) (at + slot_size * k) t r (omega arith) x e
+
+      pub tally_more : Fits w16 (get_or t x 0 + 1)
+      tally_more = counted_room m b at (m - k) (at + slot_size * k) t r (omega arith) x e
+
+      pub tally_again : Counted m b at (m - (k + 1)) (at + slot_size * (k + 1)) (set t x (get_or t x 0 + 1))
+      tally_again =
+          let y : m - k - 1 ≡ m - (k + 1) = omega arith in
+          let z : at + slot_size * k + slot_size ≡ at + slot_size * (k + 1) = omega arith in
+          subst (λ (n : ℕ). Counted m b at n (at + slot_size * (k + 1)) (set t x (get_or t x 0 + 1))) y
+          (subst (λ (n : ℕ). Counted m b at (m - k - 1) n (set t x (get_or t x 0 + 1))) z (counted_again m b at (m - k) (at + slot_size * k) t r (omega arith) x e))
+
+counted_end : (m : ℕ) (b : List ℕ) (at left here : ℕ) (t : List ℕ) → Counted m b at left here t → left ≤ 0 → Tally (actions_at m b at) t
 unfolding of_creator actions_at
 counted_end m b at zero here t r h k l = omega (arith, r.counts k l)
 counted_end m b at (suc left) here t r h k l = absurd (omega arith)
+
+pub tally_end : (m : ℕ) (b : List ℕ) (at k : ℕ) (t : List ℕ) → Counted m b at (m - k) (at + slot_size * k) t → m ≤ k → Tally (actions_at m b at) t
+tally_end m b at k t r h = counted_end m b at (m - k) (at + slot_size * k) t r (omega arith)
 
 -- ---- the test of the table
 
 abbrev within : (q : ℕ) (t : List ℕ) → ℕ → Bool
 within q t k = get_or t k 0 ≤? q
-
-pub fits_start : (n q : ℕ) (t : List ℕ) → tally_fits q t n 0 ≡ tally_fits q t (n - 0) 0
-fits_start n q t = let e : n ≡ n - 0 = omega arith in ap (λ (m : ℕ). tally_fits q t m 0) e
 
 module _ (n q : ℕ) (t : List ℕ) (k : ℕ) (v : Bool) (e : v ≡ tally_fits q t (n - k) k) where
   pub fits_denied : k < n → q < get_or t k 0 → false ≡ v
@@ -166,11 +167,11 @@ in_range_creators c b (suc m) at i =
     let j = and_holds _ _ i in
     ((id_range c (id_at b at) j.0).creator, in_range_creators c b m (at + slot_size) j.1)
 
-pub creators_made : (c : Context) (ids own actions : ℕ) (b : List ℕ) (t : Bool) → actions ≤ c.servers * c.quota → t ≡ last_lists_ok (context_of c) ids own actions b → not t ≡ false
+pub creators_made : (c : Context) (ids own actions : ℕ) (b : List ℕ) → actions ≤ c.servers * c.quota → true ≡ last_lists_ok (context_of c) ids own actions b
     → CreatorsIn c actions b
 unfolding last_lists_ok queue_fits ids_ok context_of
-creators_made c ids own actions b t l e f =
-    let queue = (and_holds _ _ (and_holds _ _ (sym e ∙ not-false t f)).1).1 in
+creators_made c ids own actions b l e =
+    let queue = (and_holds _ _ (and_holds _ _ (sym e)).1).1 in
     let in_range = (and_holds _ _ (and_holds _ _ queue).0).0 in
     record { few = l; creators = in_range_creators (context_of c) b actions (place_of (context_of c) the_queue) in_range }
 
@@ -191,13 +192,13 @@ module _ (c : Context) (actions : ℕ) (b : List ℕ) (k : Buffer c b) (r : Crea
     quotas_told =
         f ∙ tally_told c.servers c.quota (actions_at actions b at) t k.context.most y ∙ ap (λ (i : ℕ). quotas_fit c.servers c.quota (actions_at actions b i)) e
 
-    pub quotas_denied : (numbered : ℕ) → not v ≡ true → false ≡ places_ok (context_of c) numbered actions b
+    pub quotas_denied : (numbered : ℕ) → v ≡ false → v ≡ places_ok (context_of c) numbered actions b
     unfolding places_ok context_of
-    quotas_denied numbered h = and_no _ _ (sym quotas_told ∙ not-true v h)
+    quotas_denied numbered h = h ∙ and_no _ _ (sym quotas_told ∙ h)
 
-    pub places_answered : (numbered : ℕ) (q : Bool) → not v ≡ false → q ≡ (get_or t c.me 0 + numbered ≤? c.quota + own_cut (context_of c) b) → q ≡ places_ok (context_of c) numbered actions b
+    pub places_answered : (numbered : ℕ) (q : Bool) → v ≡ true → q ≡ (get_or t c.me 0 + numbered ≤? c.quota + own_cut (context_of c) b) → q ≡ places_ok (context_of c) numbered actions b
     unfolding places_ok own_room_of context_of place_of
     places_answered numbered q h g =
         let own : get_or t c.me 0 ≡ of_creator c.me (queue_in (context_of c) actions b) =
         y c.me (omega (arith, k.context.own, k.context.most)) ∙ ap (λ (i : ℕ). of_creator c.me (actions_at actions b i)) e in
-        and_yes _ _ _ (sym quotas_told ∙ not-false v h) (g ∙ ap (λ (i : ℕ). i + numbered ≤? c.quota + own_cut (context_of c) b) own)
+        and_yes _ _ _ (sym quotas_told ∙ h) (g ∙ ap (λ (i : ℕ). i + numbered ≤? c.quota + own_cut (context_of c) b) own)

@@ -41,6 +41,10 @@ own_next c own numbered b = own_cut c b + own =? numbered
 unfoldable pub cuts_fit : Context → State → List ℕ → Bool
 cuts_fit c h b = queue_cuts c h.queue_length b and own_next c h.own_count h.numbered b
 
+-- So many yellow ids.
+abbrev pub yellow_ok : Context → (ids : ℕ) → List ℕ → Bool
+yellow_ok c ids b = ids_ok c (ids_at ids b (place_of c the_yellow))
+
 -- So many own actions.
 abbrev pub own_ok : Context → (own : ℕ) → List ℕ → Bool
 own_ok c own b = own_fits c (own_cut c b) own b (place_of c the_own)
@@ -66,7 +70,7 @@ first_lists_ok c h b = cuts_fit c h b and noted_fit c b (place_of c the_noted)
 
 unfoldable pub last_lists_ok : Context → (ids own actions : ℕ) → List ℕ → Bool
 last_lists_ok c ids own actions b =
-    ids_ok c (ids_at ids b (place_of c the_yellow)) and own_ok c own b and queue_ok c actions b
+    yellow_ok c ids b and own_ok c own b and queue_ok c actions b
 
 unfoldable pub lists_ok : Context → State → List ℕ → Bool
 lists_ok c h b =

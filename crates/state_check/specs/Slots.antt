@@ -64,10 +64,9 @@ pub record NextFits (c : Context) (xs : List Id) (d : Id) (fits r : Bool) (t u :
 abbrev pub NextSlotFits : Context → (cuts k : ℕ) → List ℕ → (at here : ℕ) → Bool → (t u : List ℕ) → Type 0
 NextSlotFits c cuts k b at here r t u = NextFits c (ids_by slot_size k b at) (id_at b here) (queue_slot_fits b cuts here) r t u
 
--- The m slots from `at` on and the servers' cuts lie in the bytes b; t are the masks of payloads.
-pub record QueueRoom (c : declared.Context) (cuts at m : ℕ) (b t : List ℕ) : Type 0 where
+-- The m slots from `at` on and the servers' cuts lie in the bytes b.
+pub record QueueRoom (c : declared.Context) (cuts at m : ℕ) (b : List ℕ) : Type 0 where
   pub context : ContextIn c
-  pub masks : Masks t
   pub cuts_end : cuts + cut_size * c.servers ≤ length b
   pub slots_end : at + slot_size * m ≤ length b
 

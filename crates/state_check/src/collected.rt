@@ -8,8 +8,8 @@ ghost use Rattle.record.specs.Events.{record_of};
 ghost use Rattle.reader.specs.Reading.{meaning};
 ghost use Rattle.state_check.specs.Collected.{is_state, says_state, holds_state, collected_ok, StatesInside};
 
-use crate::numbers::yellow_count_ok;
-use image::places::state_size;
+use crate::numbers::count_ok;
+use image::sizes::Sizes;
 use octets::numbers::num16;
 use reader::read;
 use record::events::{Event, StateHead};
@@ -21,34 +21,10 @@ use refusals::Refusal;
 fn is_state(v: Event, sender: u8, configuration: u32) -> bool
     ensures { (e : List ℕ) → result ≡ is_state sender configuration (record_of v e) }
 {
-    match v {
-        Event::Action(_) => false,
-        Event::Retransmission {
-            sender: _,
-            position: _,
-            action: _,
-        } => false,
-        Event::State(s) => {
-            if s.head.sender != sender {
-                return false;
-            }
-            s.head.configuration == configuration
-        }
-        Event::Cpc {
-            sender: _,
-            configuration: _,
-        } => false,
-        Event::Regular {
-            configuration: _,
-            set: _,
-        } => false,
-        Event::Transitional { set: _ } => false,
-        Event::Request {
-            payload_at: _,
-            payload_length: _,
-        } => false,
-        Event::Recovery => false,
-    }
+    let Event::State(s) = v else {
+        return false;
+    };
+    s.head.sender == sender && s.head.configuration == configuration
 }
 
 fn says_state(r: Result<Event, Refusal>, sender: u8, configuration: u32) -> bool
@@ -67,7 +43,7 @@ fn holds_state(c: Context, sender: u8, configuration: u32, b: &[u8], at: usize) 
 {
     let n = c.servers as usize;
     let count = num16(b, at + (StateHead::COUNT + State::CUT * n));
-    if !yellow_count_ok(c, count as u32) {
+    if !count_ok(c, count as u32) {
         return false;
     }
     let end = at + (StateHead::SIZE + State::CUT * n + State::ID * count as usize);
@@ -80,10 +56,7 @@ fn collected_at(c: Context, set: u8, configuration: u32, k: u8, b: &[u8], at: us
     requires { ContextIn c × (at + state_size c.servers c.quota ≤ length b.now) }
     ensures { result ≡ (not (in_set k set) or holds_state (context_of c) k configuration b.now at) }
 {
-    if !has(set, k as usize) {
-        return true;
-    }
-    holds_state(c, k, configuration, b, at)
+    !has(set, k as usize) || holds_state(c, k, configuration, b, at)
 }
 
 // The slots from `at` on: the States of the senders in the set are in.
@@ -91,16 +64,17 @@ pub fn collected_ok(c: Context, set: u8, configuration: u32, b: &[u8], at: usize
     requires { StatesInside c b.now at }
     ensures { result ≡ collected_ok (context_of c) set configuration c.servers 0 b.now at }
 {
-    let n = c.servers;
-    let size = state_size(n as u32, c.quota as u32) as usize;
+    let sizes = Sizes {
+        servers: c.servers as u32,
+        quota: c.quota as u32,
+    };
+    let size = sizes.state_size() as usize;
     let mut here = at;
-    let mut k: u8 = 0;
-    while k < n {
+    for k in 0..c.servers {
         if !collected_at(c, set, configuration, k, b, here) {
             return false;
         }
         here += size;
-        k += 1;
     }
     true
 }

@@ -6,11 +6,11 @@ ghost use Rattle.base.specs.Bytes.{Bytes};
 ghost use Rattle.base.specs.Tests.{pick};
 ghost use Rattle.format.specs.Limits.{fewest_servers_limit, least_quota_limit};
 ghost use Rattle.image.specs.Decode.{servers_in, quota_in, reads};
-ghost use Rattle.image.specs.Layout.{header_size, SizesIn, state_length};
+ghost use Rattle.image.specs.Layout.{header_size, state_length};
 ghost use Rattle.image.specs.Outcome.{state_short, out_short, state_number, image_number};
 ghost use Rattle.record.specs.Context.{context_of};
 ghost use Rattle.refusals.specs.Numbers.{outcome_number};
-ghost use Rattle.state_check.specs.Checks.{sizes_in_range, exchange_ok, mode_ok, checks_of, Buffer};
+ghost use Rattle.state_check.specs.Checks.{sizes_in_range, exchange_ok, mode_ok, checks_of};
 
 pub mod numbers; // numbers.rt: the numbers of the state
 pub mod collected; // collected.rt: the collected States
@@ -18,54 +18,46 @@ pub mod sections; // sections.rt: the sections of the buffer
 pub mod slots; // slots.rt: entries of one size
 pub mod tally; // tally.rt: how many actions each server has in the queue
 
-use exchange::plan::planned;
-use exchange::slots::collected as slots_of;
+use exchange::states::States;
 use image::header::load;
-use image::sizes::{out_length, state_length};
+use image::sizes::Sizes;
 use numbers::numbers_ok;
 use octets::numbers::{num8, num16};
 use record::range::{context_ok, sizes_ok};
 use record::sets::inside;
-use record::{Context, State};
+use record::{Context, Mode, State};
 use refusals::Refusal;
-use sections::{lists_ok, states_ok};
+use sections::Image;
 
 // Every member's State is in, and not all planned retransmissions have come.
-fn exchange_ok(c: Context, h: State, b: &[u8]) -> bool
-    requires { Buffer c b.now }
-    ensures { result ≡ exchange_ok (context_of c) h b.now }
+fn exchange_ok(image: &Image) -> bool
+    ensures { result ≡ exchange_ok (context_of image.now.context) image.now.numbers image.now.bytes.now }
 {
-    if !inside(h.configuration_set, h.states) {
-        return false;
-    }
-    let v = slots_of(c.servers, c.quota, h.states);
-    (h.come as u64) < planned(v, b)
+    let c = image.context;
+    let h = image.numbers;
+    let states = States::collected(c.servers, c.quota, h.states, image.bytes);
+    inside(h.configuration_set, h.states) && (h.come as u64) < states.planned()
 }
 
 // Whether the numbers and lists are such as the state needs.
-fn mode_ok(c: Context, h: State, b: &[u8]) -> bool
-    requires { Buffer c b.now }
-    ensures { result ≡ mode_ok (context_of c) h b.now }
+fn mode_ok(image: &Image) -> bool
+    ensures { result ≡ mode_ok (context_of image.now.context) image.now.numbers image.now.bytes.now }
 {
-    if h.mode == State::NON_PRIM {
-        return true;
-    }
-    if h.configuration_status != 1 {
+    let h = image.numbers;
+    let configured = h.configuration_status == 1;
+    let Ok(mode) = Mode::try_from(h.mode) else {
         return false;
+    };
+    match mode {
+        Mode::NonPrim => true,
+        Mode::RegPrim | Mode::TransPrim | Mode::ExchangeStates => configured,
+        Mode::ExchangeActions => configured && exchange_ok(image),
+        Mode::Construct | Mode::No | Mode::Un => configured && h.last.index.0 < State::MOST_INDEX,
     }
-    if h.mode <= State::EXCHANGE_STATES {
-        return true;
-    }
-    if h.mode == State::EXCHANGE_ACTIONS {
-        return exchange_ok(c, h, b);
-    }
-    if State::UN < h.mode {
-        return false;
-    }
-    h.last.index.0 < State::MOST_INDEX
 }
 
 // Whether the buffer, long enough, holds the image of a well-formed state: h are its numbers.
+#[tactic(auto, using(record::proofs::Chains::chain), unfolding(crate::specs::Checks::checks_of, record::specs::Context::context_of))]
 fn checks_ok(c: Context, h: State, b: &[u8]) -> bool
     requires { Bytes b.now × (state_length c.servers c.quota ≤ length b.now) }
     ensures { result ≡ checks_of (context_of c) h b.now }
@@ -73,31 +65,30 @@ fn checks_ok(c: Context, h: State, b: &[u8]) -> bool
     if !context_ok(c) {
         return false;
     }
-    if !numbers_ok(c, h) {
-        return false;
-    }
-    if !lists_ok(c, h, b) {
-        return false;
-    }
-    if !states_ok(c, h.states, h.configuration_id, b) {
-        return false;
-    }
-    mode_ok(c, h, b)
+    let image = Image {
+        context: c,
+        numbers: h,
+        bytes: b,
+    };
+    numbers_ok(c, h) && image.lists_ok() && image.states_ok() && mode_ok(&image)
 }
 
 // The numbers of servers and the quota by which the buffers are measured: the state's own, or the least ones where one is out of range.
-fn measured(state: &[u8]) -> (u32, u32)
+#[tactic(auto, using(crate::proofs::NumberAnswer::own_servers, crate::proofs::NumberAnswer::own_quota, crate::proofs::NumberAnswer::own_sizes, crate::proofs::NumberAnswer::least_servers, crate::proofs::NumberAnswer::least_quota))]
+fn measured(state: &[u8]) -> Sizes
     requires { header_size ≤ length state.now }
-    ensures servers { result.0 ≡ pick (sizes_in_range state.now) (servers_in state.now) fewest_servers_limit }
-    ensures quota { result.1 ≡ pick (sizes_in_range state.now) (quota_in state.now) least_quota_limit }
-    ensures sizes { SizesIn result.0 result.1 }
+    ensures servers { result.servers ≡ pick (sizes_in_range state.now) (servers_in state.now) fewest_servers_limit }
+    ensures quota { result.quota ≡ pick (sizes_in_range state.now) (quota_in state.now) least_quota_limit }
 {
-    let n = num8(state, State::AT_SERVERS) as u32;
-    let q = num16(state, State::AT_QUOTA) as u32;
-    if sizes_ok(n, q) {
-        (n, q)
+    let servers = num8(state, State::AT_SERVERS) as u32;
+    let quota = num16(state, State::AT_QUOTA) as u32;
+    if sizes_ok(servers, quota) {
+        Sizes { servers, quota }
     } else {
-        (State::FEWEST_SERVERS as u32, State::LEAST_QUOTA as u32)
+        Sizes {
+            servers: State::FEWEST_SERVERS as u32,
+            quota: State::LEAST_QUOTA as u32,
+        }
     }
 }
 
@@ -108,8 +99,8 @@ fn state_short(state: &[u8]) -> bool
     if state.len() < State::SIZE {
         return true;
     }
-    let (n, q) = measured(state);
-    state.len() < state_length(n, q) as usize
+    let sizes = measured(state);
+    state.len() < sizes.state_length() as usize
 }
 
 // .. and the outgoing one than its own, by the sizes in the state.
@@ -117,8 +108,8 @@ fn out_short(state: &[u8], out: &[u8]) -> bool
     requires { header_size ≤ length state.now }
     ensures { result ≡ out_short state.now out.now }
 {
-    let (n, q) = measured(state);
-    out.len() < out_length(n, q) as usize
+    let sizes = measured(state);
+    out.len() < sizes.out_length() as usize
 }
 
 // Whether the buffer, not too short, holds a well-formed state.

@@ -1,4 +1,6 @@
 // The numbers of the state: which are in range, and which belong together.
+#![tactic(auto, using(record::proofs::Chains::chain, crate::proofs::NumberCode::picked), unfolding(crate::specs::Numbers::regular_ok, crate::specs::Numbers::transitional_ok, crate::specs::Numbers::membership_ok, crate::specs::Numbers::queue_count_ok, crate::specs::Numbers::yellow_count_ok, crate::specs::Numbers::room_ok, crate::specs::Numbers::counts_ok, crate::specs::Numbers::votes_ok, crate::specs::Numbers::numbers_ok, record::specs::Context::context_of))]
+
 ghost use Rattle.std.specs.Prelude.{◌≡◌};
 ghost use Rattle.base.specs.Tests.{◌≤?◌};
 ghost use Rattle.format.specs.Limits.{most_planned};
@@ -17,17 +19,11 @@ fn regular_ok(c: Context, h: State) -> bool
     requires { ContextIn c }
     ensures { result ≡ regular_ok (context_of c) h }
 {
-    let set = h.configuration_set;
     if h.configuration_status == 0 {
-        if h.configuration_id != 0 {
-            return false;
-        }
-        return set == 0;
+        h.configuration_id == 0 && h.configuration_set == 0
+    } else {
+        h.configuration_status == 1 && own_set_ok(c, h.configuration_set)
     }
-    if h.configuration_status != 1 {
-        return false;
-    }
-    own_set_ok(c, set)
 }
 
 // None, and zeros; or one whose set holds the server itself and lies inside the regular one, if any.
@@ -37,15 +33,10 @@ fn transitional_ok(c: Context, h: State) -> bool
 {
     let set = h.transitional_set;
     if h.transitional_status == 0 {
-        return set == 0;
+        set == 0
+    } else {
+        h.transitional_status == 1 && own_set_ok(c, set) && inside_last(c, set)
     }
-    if h.transitional_status != 1 {
-        return false;
-    }
-    if !own_set_ok(c, set) {
-        return false;
-    }
-    inside_last(c, set)
 }
 
 // At most as many retransmissions as can be planned.
@@ -53,63 +44,39 @@ fn come_ok(c: Context, come: u32) -> bool
     requires { ContextIn c }
     ensures { result ≡ (come ≤? most_planned c.servers) }
 {
-    come <= State::MOST_LENGTH + product(c.servers as u32, State::MOST_NUMBER as u32)
+    come <= State::MOST_LENGTH + product(u32::from(c.servers), u32::from(State::MOST_NUMBER))
 }
 
 fn membership_ok(c: Context, h: State) -> bool
     requires { ContextIn c }
     ensures { result ≡ membership_ok (context_of c) h }
 {
-    if !regular_ok(c, h) {
-        return false;
-    }
-    if !transitional_ok(c, h) {
-        return false;
-    }
-    let senders = h.states;
-    if !set_ok(c, senders) {
-        return false;
-    }
-    if !inside(senders, h.configuration_set) {
-        return false;
-    }
-    if !set_ok(c, h.cpcs) {
-        return false;
-    }
-    come_ok(c, h.come)
+    regular_ok(c, h)
+        && transitional_ok(c, h)
+        && set_ok(c, h.states)
+        && inside(h.states, h.configuration_set)
+        && set_ok(c, h.cpcs)
+        && come_ok(c, h.come)
 }
 
-// How many actions the queue may have.
-fn queue_count_ok(c: Context, count: u32) -> bool
+// How many actions the queue may have, and how many ids a yellow list.
+pub fn count_ok(c: Context, count: u32) -> bool
     requires { ContextIn c }
-    ensures { result ≡ queue_count_ok (context_of c) count }
+    ensures queue { result ≡ queue_count_ok (context_of c) count }
+    ensures yellow { result ≡ yellow_count_ok (context_of c) count }
 {
-    count <= product(c.servers as u32, c.quota as u32)
-}
-
-// How many ids a yellow list may have.
-pub fn yellow_count_ok(c: Context, count: u32) -> bool
-    requires { ContextIn c }
-    ensures { result ≡ yellow_count_ok (context_of c) count }
-{
-    count <= product(c.servers as u32, c.quota as u32)
+    count <= product(u32::from(c.servers), u32::from(c.quota))
 }
 
 // Every list has room, and the green actions are among those of the queue.
-fn room_ok(c: Context, actions: u32, greens: u32, own: u16, ids: u16) -> bool
+fn room_ok(c: Context, h: State) -> bool
     requires { ContextIn c }
-    ensures { result ≡ room_ok (context_of c) actions greens own ids }
+    ensures { result ≡ room_ok (context_of c) h.queue_length h.green_count h.own_count h.yellow_count }
 {
-    if !queue_count_ok(c, actions) {
-        return false;
-    }
-    if actions < greens {
-        return false;
-    }
-    if c.quota < own {
-        return false;
-    }
-    yellow_count_ok(c, ids as u32)
+    count_ok(c, h.queue_length)
+        && h.green_count <= h.queue_length
+        && h.own_count <= c.quota
+        && count_ok(c, u32::from(h.yellow_count))
 }
 
 // And those sent are numbered.
@@ -117,34 +84,17 @@ fn counts_ok(c: Context, h: State) -> bool
     requires { ContextIn c }
     ensures { result ≡ counts_ok (context_of c) h }
 {
-    if !room_ok(
-        c,
-        h.queue_length,
-        h.green_count,
-        h.own_count,
-        h.yellow_count,
-    ) {
-        return false;
-    }
-    h.sent <= h.numbered
+    room_ok(c, h) && h.sent <= h.numbered
 }
 
 fn votes_ok(c: Context, h: State) -> bool
     requires { ContextIn c }
     ensures { result ≡ votes_ok (context_of c) h }
 {
-    if !index_ok(h.attempt.0) {
-        return false;
-    }
-    let last = h.last;
-    if !primary_ok(c, last) {
-        return false;
-    }
-    let mark = h.mark;
-    if !mark_ok(c, mark) {
-        return false;
-    }
-    status_ok(h.yellow_status)
+    index_ok(h.attempt.0)
+        && primary_ok(c, h.last)
+        && mark_ok(c, h.mark)
+        && status_ok(h.yellow_status)
 }
 
 // An image of another layout is none of this one.
@@ -152,14 +102,5 @@ pub fn numbers_ok(c: Context, h: State) -> bool
     requires { ContextIn c }
     ensures { result ≡ numbers_ok (context_of c) h }
 {
-    if h.layout != State::LAYOUT {
-        return false;
-    }
-    if !membership_ok(c, h) {
-        return false;
-    }
-    if !counts_ok(c, h) {
-        return false;
-    }
-    votes_ok(c, h)
+    h.layout == State::LAYOUT && membership_ok(c, h) && counts_ok(c, h) && votes_ok(c, h)
 }

@@ -1,8 +1,10 @@
 // The slots of the state's buffer: what is tested of each entry.
+#![tactic(auto, using(record::proofs::Chains::chain), unfolding(crate::specs::Slots::slot_fits, crate::specs::Slots::within_cut_at, crate::specs::Slots::queue_slot_fits, crate::specs::Slots::own_slot_fits, crate::specs::Slots::noted_at, format::specs::Range::length_ok, record::specs::Context::context_of))]
+
 ghost use Rattle.std.specs.Prelude.{◌≡◌, ◌+◌, ◌*◌, ◌-◌, ◌≤◌, length};
 ghost use Rattle.base.specs.Lists.{every_at};
 ghost use Rattle.base.specs.Bytes.{zero_at};
-ghost use Rattle.format.specs.Limits.{most_payload_limit};
+ghost use Rattle.format.specs.Limits.{most_payload_limit, most_quota_limit, most_ids};
 ghost use Rattle.record.specs.Context.{context_of, ContextIn};
 ghost use Rattle.record.specs.Values.{HasPlaces, NextId};
 ghost use Rattle.state_check.specs.Slots.{Masks, payload_room, payload_space, payload_fits, slot_fits, noted_at, noted_fit};
@@ -10,7 +12,7 @@ ghost use Rattle.state_check.specs.Slots.{CutInside, queue_slot_fits, NextSlotFi
 ghost use Rattle.image.specs.Layout.{noted_size, slot_size};
 
 use octets::numbers::{num8, num16, num32};
-use record::lists::is_new;
+use record::lists::Ids;
 use record::range::length_ok;
 use record::{ActionHead, Context, State};
 
@@ -25,10 +27,8 @@ pub fn masks() -> [u8; MASKS]
     ensures { Masks result }
 {
     let mut t: [u8; MASKS] = [0; MASKS];
-    let mut j = State::MOST_PAYLOAD;
-    while j < MASKS {
+    for j in State::MOST_PAYLOAD..MASKS {
         t[j] = 255;
-        j += 1;
     }
     t
 }
@@ -41,159 +41,135 @@ fn zeros(b: &[u8], at: usize, m: usize, t: &[u8; MASKS]) -> bool
 {
     let from = State::MOST_PAYLOAD - m;
     let mut all: u8 = 0;
-    let mut j = 0;
-    while j < SPACE {
-        let x = b[at + j];
-        let mask = t[from + j];
-        all = all | (x & mask);
-        j += 1;
+    for j in 0..SPACE {
+        all |= b[at + j] & t[from + j];
     }
     all == 0
 }
 
-// A payload of at most 48 bytes, and zeros behind it.
-fn payload_fits(b: &[u8], at: usize, t: &[u8; MASKS]) -> bool
-    requires { Masks t.now × (at + payload_room ≤ length b.now) }
-    ensures { result ≡ payload_fits b.now at }
-{
-    let m = num8(b, at) as usize;
-    if State::MOST_PAYLOAD < m {
-        return false;
-    }
-    zeros(b, at + 1, m, t)
+// The bytes that the slots lie in, and the masks of their payloads.
+#[derive(Clone, Copy)]
+pub struct SlotBytes<'a> {
+    pub bytes: &'a [u8],
+    pub masks: &'a [u8; MASKS],
+    pub ghost masked: { Masks masks.now },
 }
 
-// An action's green length, white length and payload.
-fn slot_fits(b: &[u8], at: usize, t: &[u8; MASKS]) -> bool
-    requires { Masks t.now × (at + slot_size ≤ length b.now) }
-    ensures { result ≡ slot_fits b.now at }
-{
-    if !length_ok(num32(b, at + ActionHead::GREEN_LENGTH)) {
-        return false;
+impl<'a> SlotBytes<'a> {
+    // A payload of at most 48 bytes, and zeros behind it.
+    fn payload_fits(&self, at: usize) -> bool
+        requires { at + payload_room ≤ length self.now.bytes.now }
+        ensures { result ≡ payload_fits self.now.bytes.now at }
+    {
+        let m = num8(self.bytes, at) as usize;
+        m <= State::MOST_PAYLOAD && zeros(self.bytes, at + 1, m, self.masks)
     }
-    if !length_ok(num32(b, at + ActionHead::WHITE_LENGTH)) {
-        return false;
-    }
-    payload_fits(b, at + ActionHead::PAYLOAD, t)
-}
 
-// An action of the queue: the cuts begin at `cuts`, and its creator's is among them.
-fn queue_slot_fits(b: &[u8], cuts: usize, at: usize, t: &[u8; MASKS]) -> bool
-    requires { Masks t.now × CutInside cuts at b.now × (at + slot_size ≤ length b.now) }
-    ensures { result ≡ queue_slot_fits b.now cuts at }
-{
-    let creator = num8(b, at) as usize;
-    if num16(b, cuts + State::CUT * creator) < num16(b, at + ActionHead::INDEX) {
-        return false;
+    // An action's green length, white length and payload.
+    fn slot_fits(&self, at: usize) -> bool
+        requires { at + slot_size ≤ length self.now.bytes.now }
+        ensures { result ≡ slot_fits self.now.bytes.now at }
+    {
+        length_ok(num32(self.bytes, at + ActionHead::GREEN_LENGTH))
+            && length_ok(num32(self.bytes, at + ActionHead::WHITE_LENGTH))
+            && self.payload_fits(at + ActionHead::PAYLOAD)
     }
-    slot_fits(b, at, t)
-}
 
-// The slot at `here`, behind `k` others from `at` on: its id is new, and its place in the table of the ids that were met is set; and all else.
-fn next_fits(
-    c: Context,
-    b: &[u8],
-    cuts: usize,
-    at: usize,
-    k: usize,
-    here: usize,
-    t: &[u8; MASKS],
-    met: &mut [u8],
-) -> bool
-    requires { QueueRoom c cuts here 1 b.now t.now × NextId slot_size k b.now at here c.servers met.old }
-    ensures { NextSlotFits (context_of c) cuts k b.now at here result met.old met.new }
-{
-    if !is_new(c, b, at, State::SLOT, k, here, met) {
-        return false;
+    // An action of the queue: the cuts begin at `cuts`, and its creator's is among them.
+    fn queue_slot_fits(&self, cuts: usize, at: usize) -> bool
+        requires { CutInside cuts at self.now.bytes.now × (at + slot_size ≤ length self.now.bytes.now) }
+        ensures { result ≡ queue_slot_fits self.now.bytes.now cuts at }
+    {
+        let index = num16(self.bytes, at + ActionHead::INDEX);
+        let cut = cuts + State::CUT * num8(self.bytes, at) as usize;
+        index <= num16(self.bytes, cut) && self.slot_fits(at)
     }
-    // The id is in range, so its creator's cut is there to be read.
-    queue_slot_fits(b, cuts, here, t)
-}
 
-// The queue, in one pass, by a table of the ids that were met.
-fn queue_fits_by(
-    c: Context,
-    b: &[u8],
-    cuts: usize,
-    at: usize,
-    count: usize,
-    t: &[u8; MASKS],
-    met: &mut [u8],
-) -> bool
-    requires { QueueRoom c cuts at count b.now t.now × HasPlaces c.servers met.old }
-    ensures { result ≡ queue_fits (context_of c) cuts count b.now at }
-{
-    let mut here = at;
-    let mut k = 0;
-    while k < count {
-        if !next_fits(c, b, cuts, at, k, here, t, met) {
-            return false;
+    // The slot behind `k` others from `at` on: its id is new, and its place in the table of the ids that were met is set; and all else. As the id is
+    // in range, its creator's cut is there to be read.
+    fn next_fits(&self, c: Context, cuts: usize, at: usize, k: usize, met: &mut [u8]) -> bool
+        requires { QueueRoom c cuts (at + slot_size * k) 1 self.now.bytes.now × NextId slot_size k self.now.bytes.now at (at + slot_size * k) c.servers met.old }
+        ensures { NextSlotFits (context_of c) cuts k self.now.bytes.now at (at + slot_size * k) result met.old met.new }
+    {
+        let here = at + State::SLOT * k;
+        let before = Ids {
+            bytes: self.bytes,
+            at,
+            step: State::SLOT,
+            count: k,
+        };
+        before.is_new(c, here, met) && self.queue_slot_fits(cuts, here)
+    }
+
+    // The queue, in one pass, by a table of the ids that were met.
+    fn queue_fits_by(
+        &self,
+        c: Context,
+        cuts: usize,
+        at: usize,
+        count: usize,
+        met: &mut [u8],
+    ) -> bool
+        requires { QueueRoom c cuts at count self.now.bytes.now × HasPlaces c.servers met.old }
+        ensures { result ≡ queue_fits (context_of c) cuts count self.now.bytes.now at }
+    {
+        for k in 0..count {
+            if !self.next_fits(c, cuts, at, k, met) {
+                return false;
+            }
         }
-        here += State::SLOT;
-        k += 1;
+        true
     }
-    true
-}
 
-// The queue. A table for few servers is short.
-pub fn queue_fits(
-    c: Context,
-    b: &[u8],
-    cuts: usize,
-    at: usize,
-    count: usize,
-    t: &[u8; MASKS],
-) -> bool
-    requires { QueueRoom c cuts at count b.now t.now }
-    ensures { result ≡ queue_fits (context_of c) cuts count b.now at }
-{
-    if c.servers <= 2 {
-        let mut of_2: [u8; State::IDS_OF_2] = [0; State::IDS_OF_2];
-        return queue_fits_by(c, b, cuts, at, count, t, &mut of_2);
+    fn queue_fits_with<const N: usize>(
+        &self,
+        c: Context,
+        cuts: usize,
+        at: usize,
+        count: usize,
+    ) -> bool
+        requires { QueueRoom c cuts at count self.now.bytes.now × (c.servers * most_quota_limit ≤ N) × (N ≤ most_ids) }
+        ensures { result ≡ queue_fits (context_of c) cuts count self.now.bytes.now at }
+    {
+        let mut met: [u8; N] = [0; N];
+        self.queue_fits_by(c, cuts, at, count, &mut met)
     }
-    if c.servers <= 3 {
-        let mut of_3: [u8; State::IDS_OF_3] = [0; State::IDS_OF_3];
-        return queue_fits_by(c, b, cuts, at, count, t, &mut of_3);
-    }
-    if c.servers <= 4 {
-        let mut of_4: [u8; State::IDS_OF_4] = [0; State::IDS_OF_4];
-        return queue_fits_by(c, b, cuts, at, count, t, &mut of_4);
-    }
-    let mut met: [u8; State::MOST_IDS] = [0; State::MOST_IDS];
-    queue_fits_by(c, b, cuts, at, count, t, &mut met)
-}
 
-// An own action of the index k + 1.
-fn own_slot_fits(c: Context, b: &[u8], k: usize, at: usize, t: &[u8; MASKS]) -> bool
-    requires { ContextIn c × Masks t.now × (k ≤ own_reach) × (at + slot_size ≤ length b.now) }
-    ensures { result ≡ own_slot_fits (context_of c) k b.now at }
-{
-    if num8(b, at) != c.me {
-        return false;
-    }
-    if num16(b, at + ActionHead::INDEX) as usize != k + 1 {
-        return false;
-    }
-    slot_fits(b, at, t)
-}
-
-// Own actions of the indexes from k + 1 on.
-pub fn own_fits(c: Context, b: &[u8], k: usize, at: usize, count: usize, t: &[u8; MASKS]) -> bool
-    requires { ContextIn c × Masks t.now × (k + count ≤ own_reach) × (at + slot_size * count ≤ length b.now) }
-    ensures { result ≡ own_fits (context_of c) k count b.now at }
-{
-    let mut here = at;
-    let mut left = count;
-    let mut i = k;
-    while 0 < left {
-        if !own_slot_fits(c, b, i, here, t) {
-            return false;
+    // The queue. A table for few servers is short.
+    pub fn queue_fits(&self, c: Context, cuts: usize, at: usize, count: usize) -> bool
+        requires { QueueRoom c cuts at count self.now.bytes.now }
+        ensures { result ≡ queue_fits (context_of c) cuts count self.now.bytes.now at }
+    {
+        match c.servers {
+            0..=2 => self.queue_fits_with::<{ State::IDS_OF_2 }>(c, cuts, at, count),
+            3 => self.queue_fits_with::<{ State::IDS_OF_3 }>(c, cuts, at, count),
+            4 => self.queue_fits_with::<{ State::IDS_OF_4 }>(c, cuts, at, count),
+            _ => self.queue_fits_with::<{ State::MOST_IDS }>(c, cuts, at, count),
         }
-        here += State::SLOT;
-        i += 1;
-        left -= 1;
     }
-    true
+
+    // An own action of the index k + 1.
+    fn own_slot_fits(&self, c: Context, k: usize, at: usize) -> bool
+        requires { ContextIn c × (k ≤ own_reach) × (at + slot_size ≤ length self.now.bytes.now) }
+        ensures { result ≡ own_slot_fits (context_of c) k self.now.bytes.now at }
+    {
+        num8(self.bytes, at) == c.me
+            && num16(self.bytes, at + ActionHead::INDEX) as usize == k + 1
+            && self.slot_fits(at)
+    }
+
+    // Own actions of the indexes from k + 1 on.
+    pub fn own_fits(&self, c: Context, k: usize, at: usize, count: usize) -> bool
+        requires { ContextIn c × (k + count ≤ own_reach) × (at + slot_size * count ≤ length self.now.bytes.now) }
+        ensures { result ≡ own_fits (context_of c) k count self.now.bytes.now at }
+    {
+        for i in 0..count {
+            if !self.own_slot_fits(c, k + i, at + State::SLOT * i) {
+                return false;
+            }
+        }
+        true
+    }
 }
 
 fn noted_at(b: &[u8], at: usize) -> bool
@@ -208,14 +184,11 @@ pub fn noted_fit(c: Context, b: &[u8], at: usize) -> bool
     requires { ContextIn c × (at + noted_size * c.servers ≤ length b.now) }
     ensures { result ≡ noted_fit (context_of c) b.now at }
 {
-    let mut here = at;
-    let mut left = c.servers as usize;
-    while 0 < left {
-        if !noted_at(b, here) {
+    let servers = c.servers as usize;
+    for k in 0..servers {
+        if !noted_at(b, at + State::NOTED * k) {
             return false;
         }
-        here += State::NOTED;
-        left -= 1;
     }
     true
 }

@@ -16,14 +16,9 @@ pub fn tally(b: &[u8], at: usize, count: usize) -> [u16; SERVERS]
     ensures { Tally (actions_at count b.now at) result }
 {
     let mut t: [u16; SERVERS] = [0; SERVERS];
-    let mut here = at;
-    let mut left = count;
-    while 0 < left {
-        let creator = num8(b, here) as usize;
-        let so_far = t[creator];
-        t[creator] = so_far + 1;
-        here += State::SLOT;
-        left -= 1;
+    for k in 0..count {
+        let creator = num8(b, at + State::SLOT * k) as usize;
+        t[creator] += 1;
     }
     t
 }
@@ -33,13 +28,11 @@ pub fn tally_fits(c: Context, t: &[u16; SERVERS]) -> bool
     requires { ContextIn c }
     ensures { result ≡ tally_fits c.quota t.now c.servers 0 }
 {
-    let n = c.servers as usize;
-    let mut k = 0;
-    while k < n {
+    let n = usize::from(c.servers);
+    for k in 0..n {
         if c.quota < t[k] {
             return false;
         }
-        k += 1;
     }
     true
 }

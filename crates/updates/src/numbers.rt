@@ -14,5 +14,6 @@ pub fn change<F: FnOnce(State) -> State>(state: &mut [u8], f: F)
     ensures { ChangedBy (F.post f) state.old state.new }
 {
     let h = load(state);
-    save(state, f(h));
+    let t = f(h);
+    save(state, t);
 }

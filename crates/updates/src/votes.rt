@@ -67,6 +67,7 @@ fn with_votes(h: State, v: VoteNumbers) -> State
 }
 
 // Other votes: their numbers, and the bytes of the yellow ids.
+// Stays: (d) written by load and save, since the yellow ids change too, of which `change` says nothing.
 pub fn take_votes(state: &mut [u8], v: VoteNumbers, ids: &[u8])
     requires { YellowRoom ids.now state.old }
     ensures { BecomesVoted v ids.now state.old state.new }

@@ -1,70 +1,56 @@
-// Numbers and bytes, written.
-ghost use Rattle.std.specs.Prelude.{◌<◌};
+// Numbers and bytes as they are written.
+use std::fmt;
 
-pub fn number(v: u64) {
-    io::write_all(1, b" ");
-    io::print_decimal(1, v);
-}
+// Numbers, a space before each.
+#[derive(Clone, Copy, Drop)]
+pub struct Numbers<'a>(pub &'a [u64]);
 
-pub fn labelled(name: &[u8], v: u64) {
-    io::write_all(1, name);
-    number(v);
-}
-
-pub fn flag(name: &[u8], b: bool) {
-    if b {
-        labelled(name, 1);
-        return;
-    }
-    labelled(name, 0);
-}
-
-// The first `count` of them.
-pub fn numbers(v: [u64; 13], count: usize) {
-    let mut k = 0;
-    while k < 13 && k < count {
-        number(v[k]);
-        k += 1;
+impl fmt::Display for Numbers<'_> {
+    fn fmt<W: fmt::Write>(&self, f: &mut fmt::Formatter<W>) -> fmt::Result {
+        for x in self.0 {
+            write!(f, " {x}")?;
+        }
+        Ok(())
     }
 }
 
-fn wide(b: u8) -> u64 {
-    b as u64
+// Bytes in hexadecimal digits.
+#[derive(Clone, Copy, Drop)]
+pub struct Hex<'a>(pub &'a [u8]);
+
+impl fmt::Display for Hex<'_> {
+    fn fmt<W: fmt::Write>(&self, f: &mut fmt::Formatter<W>) -> fmt::Result {
+        for b in self.0 {
+            write!(f, "{b:02x}")?;
+        }
+        Ok(())
+    }
 }
 
-fn sum(x: u64, y: u64) -> u64
-    ensures { result < 65521 }
-{
-    (x % 65521 + y % 65521) % 65521
+// A digest of the bytes and, where there are few, the bytes themselves.
+#[derive(Clone, Copy, Drop)]
+pub struct Bytes<'a>(pub &'a [u8]);
+
+const FEW_BYTES: usize = 72;
+
+impl fmt::Display for Bytes<'_> {
+    fn fmt<W: fmt::Write>(&self, f: &mut fmt::Formatter<W>) -> fmt::Result {
+        let digest = digest(self.0);
+        write!(f, " digest {digest:08x}")?;
+        if self.0.len() <= FEW_BYTES {
+            write!(f, " bytes {}", Hex(self.0))?;
+        }
+        Ok(())
+    }
 }
 
 // Adler-32: the sum of the bytes and 1, and the sum of these sums, each modulo 65521.
 fn digest(s: &[u8]) -> u64 {
     let mut low: u64 = 1;
     let mut high: u64 = 0;
-    let mut k = 0;
-    while k < s.len() {
-        low = sum(low, wide(s[k]));
-        high = sum(high, low);
-        k += 1;
+    for b in s {
+        low = (low + u64::from(*b)) % 65521;
+        high = (high + low) % 65521;
     }
     high * 65536 + low
-}
-
-pub fn hex(s: &[u8]) {
-    let mut k = 0;
-    while k < s.len() {
-        io::print_hex(1, wide(s[k]), 2);
-        k += 1;
-    }
-}
-
-// A digest of the bytes and, where there are few, the bytes themselves.
-pub fn bytes(s: &[u8]) {
-    io::write_all(1, b" digest ");
-    io::print_hex(1, digest(s), 8);
-    if s.len() <= 72 {
-        io::write_all(1, b" bytes ");
-        hex(s);
-    }
 }

@@ -1,81 +1,48 @@
 // Lines and hexadecimal digits.
-ghost use Rattle.std.specs.Prelude.{◌≤◌, length};
-ghost use Rattle.io.specs.Counts.{IsPrefixLen};
+ghost use Rattle.std.specs.Prelude.{◌<◌, ⊤, MatchOption};
 
-// The place of the first b from `at` on, or the end.
-pub fn find(s: &[u8], at: usize, b: u8) -> usize
-    requires { at ≤ length s.now }
-    ensures { (at ≤ result) × (result ≤ length s.now) }
-{
-    let mut i = at;
-    while i < s.len() {
-        if s[i] == b {
-            return i;
-        }
-        i += 1;
-    }
-    i
+// A line without its end, as `split_inclusive` cuts it.
+pub fn without_end(line: &[u8]) -> &[u8] {
+    line.strip_suffix(b"\n").unwrap_or(line)
 }
 
-pub fn begins(s: &[u8], b: u8) -> bool {
-    if s.len() < 1 {
-        return false;
-    }
-    s[0] == b
+// A line's digits, and its label from '#' on.
+pub fn split_label(line: &[u8]) -> (&[u8], &[u8]) {
+    let end = line.iter().position(|b| *b == b'#').unwrap_or(line.len());
+    line.split_at(end)
 }
 
-// The value of a hexadecimal digit, and 16 of any other byte.
-fn digit(b: u8) -> u16
-    ensures { result ≤ 16 }
+// The value of a hexadecimal digit; a capital letter is none.
+fn digit(b: u8) -> Option<u8>
+    ensures { MatchOption result ⊤ (λ d. d < 16) }
 {
-    if b < b'0' {
-        return 16;
+    match b {
+        b'0'..=b'9' => Some(b - b'0'),
+        b'a'..=b'f' => Some(b - b'a' + 10),
+        _ => None,
     }
-    if b <= b'9' {
-        return (b - b'0') as u16;
-    }
-    if b < b'a' {
-        return 16;
-    }
-    if b <= b'f' {
-        return (b - b'a') as u16 + 10;
-    }
-    16
 }
 
-// The byte that two digits make, and 256 of any other two bytes.
-fn byte(b: u8, d: u8) -> u16
-    ensures { result ≤ 256 }
-{
-    let high = digit(b);
-    let low = digit(d);
-    if high == 16 {
-        return 256;
-    }
-    if low == 16 {
-        return 256;
-    }
-    high * 16 + low
+// The byte that two digits make.
+fn byte(high: u8, low: u8) -> Option<u8> {
+    Some(digit(high)? * 16 + digit(low)?)
 }
 
-// The bytes that pairs of digits make, put into e from its start; the number of them.
-pub fn decode(s: &[u8], e: &mut [u8]) -> usize
-    ensures { IsPrefixLen result e.new }
-{
+// The bytes that pairs of digits make, put into e from its start, as far as it goes; what is no pair is passed over.
+pub fn decode<'a>(s: &[u8], e: &'a mut [u8]) -> &'a [u8] {
+    let mut rest = s;
     let mut n = 0;
-    let mut i = 0;
-    while i + 1 < s.len() {
-        let v = byte(s[i], s[i + 1]);
-        i += 1;
-        if v == 256 {
+    while let [high, low, ..] = rest {
+        let Some(b) = byte(*high, *low) else {
+            rest = &rest[1..];
             continue;
-        }
+        };
         if n == e.len() {
-            return n;
+            break;
         }
-        e[n] = v as u8;
+        e[n] = b;
         n += 1;
-        i += 1;
+        rest = &rest[2..];
     }
-    n
+    &e[..n]
 }

@@ -11,94 +11,80 @@ mod records;
 mod states;
 mod writing;
 
-use vector_tools::text;
+use std::io::{Result, Write, writer};
+use vector_tools::text::{decode, split_label, without_end};
 
 // What the vectors of a group are run through.
-#[derive(Clone, Copy)]
+#[derive(Clone, Copy, PartialEq, Eq)]
 enum Group {
-    Nothing,
     Records,
     States,
     Decisions,
 }
 
-// The group of a heading, by the first letter of its name.
-fn group_of(s: &[u8]) -> Group {
-    if s.len() < 3 {
-        return Group::Nothing;
-    }
-    match s[2] {
-        b'r' => Group::Records,
-        b's' => Group::States,
-        b'd' => Group::Decisions,
-        _ => Group::Nothing,
+impl Group {
+    // The group of a heading, by the first letter of its name.
+    fn of_heading(s: &[u8]) -> Option<Group> {
+        match s {
+            [_, _, b'r', ..] => Some(Group::Records),
+            [_, _, b's', ..] => Some(Group::States),
+            [_, _, b'd', ..] => Some(Group::Decisions),
+            _ => None,
+        }
     }
 }
 
-fn begin(group: Group) {
+// The answer to a vector.
+fn answer<W: Write>(out: &mut W, group: Group, base: &mut [u8], e: &[u8]) -> Result<()> {
     match group {
-        Group::Records => records::limits(),
-        _ => {}
+        Group::Records => records::read(out, e),
+        Group::States => states::vector(out, base, e),
+        Group::Decisions => decisions::vector(out, e),
     }
 }
 
-fn answer(group: Group, base: &mut [u8], e: &[u8]) {
-    match group {
-        Group::Records => records::read(e),
-        Group::States => states::vector(base, e),
-        Group::Decisions => decisions::vector(e),
-        Group::Nothing => {}
+// The answer, if there is a vector, and the label behind it.
+fn line<W: Write>(out: &mut W, group: Option<Group>, base: &mut [u8], s: &[u8]) -> Result<()> {
+    let (digits, label) = split_label(s);
+    let mut room = io::large_buffer();
+    let e = decode(digits, &mut room);
+    if !e.is_empty() {
+        if let Some(group) = group {
+            answer(out, group, base, e)?;
+        }
+        write!(out, " ")?;
     }
+    out.write_all(label)?;
+    out.write_all(b"\n")?;
+    if s.starts_with(b"w") {
+        records::write(out, e)?;
+    }
+    Ok(())
 }
 
-// The answer to a vector, if there is one.
-fn vector(group: Group, base: &mut [u8], e: &[u8]) {
-    if e.len() < 1 {
-        return;
+fn heading<W: Write>(out: &mut W, s: &[u8]) -> Result<Option<Group>> {
+    out.write_all(s)?;
+    out.write_all(b"\n")?;
+    let group = Group::of_heading(s);
+    if group == Some(Group::Records) {
+        records::limits(out)?;
     }
-    answer(group, base, e);
-    io::write_all(1, b" ");
+    Ok(group)
 }
 
-// The answer, and the label behind it.
-fn vector_line(group: Group, base: &mut [u8], s: &[u8]) {
-    let m = text::find(s, 0, b'#');
-    let mut e = io::large_buffer();
-    let n = text::decode(&s[0..m], &mut e);
-    vector(group, base, &e[..n]);
-    io::write_all(1, &s[m..]);
-    io::write_all(1, b"\n");
-    if text::begins(s, b'w') {
-        records::write(&e[..n]);
-    }
-}
-
-// The group that the next line is of.
-fn line(group: Group, base: &mut [u8], s: &[u8]) -> Group {
-    if !text::begins(s, b'=') {
-        vector_line(group, base, s);
-        return group;
-    }
-    io::write_all(1, s);
-    io::write_all(1, b"\n");
-    let next = group_of(s);
-    begin(next);
-    next
-}
-
-fn lines(base: &mut [u8], s: &[u8]) {
-    let mut group = Group::Nothing;
-    let mut at = 0;
-    while at < s.len() {
-        let end = text::find(s, at, b'\n');
-        group = line(group, base, &s[at..end]);
-        at = end + 1;
-    }
-}
-
-fn main() {
+fn main(rt: HostRuntime) -> Result<()> {
+    let mut out = writer(&rt);
     let mut input: [u8; 131072] = [0; 131072];
     let n = io::read_full(0, &mut input);
     let mut base: [u8; states::ROOM] = [0; states::ROOM];
-    lines(&mut base, &input[..n]);
+    let mut group = None;
+    for s in input[..n].split_inclusive(|b| *b == b'\n') {
+        let s = without_end(s);
+        if s.starts_with(b"=") {
+            group = heading(&mut out, s)?;
+        } else {
+            line(&mut out, group, &mut base, s)?;
+        }
+    }
+    Ok(())
 }

@@ -4,174 +4,113 @@ ghost use Rattle.format.specs.Places.{cut_size, id_size};
 ghost use Rattle.reader.specs.Reading.{PlacedEvent, PlacedAction, PlacedRetransmission, PlacedState, PlacedPayload};
 
 use record::events::{ActionAt, Event, StateAt, StateHead};
-use record::{ActionHead, Context, State};
-use vector_tools::output::{bytes, hex, labelled, number, numbers};
+use record::{Context, State};
+use std::io::{Result, Write};
+use vector_tools::output::{Bytes, Hex, Numbers};
 
-fn name(kind: u8) {
-    match kind {
-        Event::ACTION => io::write_all(1, b"action"),
-        Event::RETRANSMISSION => io::write_all(1, b"retransmission"),
-        Event::STATE => io::write_all(1, b"State"),
-        Event::CPC => io::write_all(1, b"CPC"),
-        Event::REGULAR => io::write_all(1, b"regular"),
-        Event::TRANSITIONAL => io::write_all(1, b"transitional"),
-        Event::REQUEST => io::write_all(1, b"request"),
-        _ => io::write_all(1, b"recovery"),
-    };
-}
-
-fn pair(kind: u8, x: u64, y: u64) {
-    name(kind);
-    number(x);
-    number(y);
-}
-
-fn payload(e: &[u8], at: usize, m: usize)
+fn payload<W: Write>(out: &mut W, e: &[u8], at: usize, m: usize) -> Result<()>
     requires { PlacedPayload at m e.now }
 {
-    io::write_all(1, b" payload ");
-    io::write_all(1, &e[at..at + m]);
+    write!(out, " payload ")?;
+    out.write_all(&e[at..at + m])
 }
 
-fn action_numbers(h: ActionHead) -> [u64; 13] {
-    [
-        h.creator as u64,
-        h.index as u64,
-        h.green_length as u64,
-        h.white_length as u64,
-        0,
-        0,
-        0,
-        0,
-        0,
-        0,
-        0,
-        0,
-        0,
-    ]
-}
-
-fn action(c: Context, a: ActionAt, e: &[u8])
+fn action<W: Write>(out: &mut W, c: Context, a: ActionAt, e: &[u8]) -> Result<()>
     requires { PlacedAction c a e.now }
 {
-    name(Event::ACTION);
     let h = a.head;
-    numbers(action_numbers(h), 4);
-    let at = a.payload_at;
-    payload(e, at, a.payload_length);
+    write!(out, "action {} {}", h.creator, h.index)?;
+    write!(out, " {} {}", h.green_length, h.white_length)?;
+    payload(out, e, a.payload_at, a.payload_length)
 }
 
-fn retransmission(c: Context, sender: u8, position: u32, a: ActionAt, e: &[u8])
+fn retransmission<W: Write>(
+    out: &mut W,
+    c: Context,
+    sender: u8,
+    position: u32,
+    a: ActionAt,
+    e: &[u8],
+) -> Result<()>
     requires { PlacedRetransmission c sender position a e.now }
 {
-    pair(Event::RETRANSMISSION, sender as u64, position as u64);
-    io::write_all(1, b" ");
-    action(c, a, e);
+    write!(out, "retransmission {sender} {position} ")?;
+    action(out, c, a, e)
 }
 
 fn state_numbers(h: StateHead) -> [u64; 13] {
     let last = h.last;
     let mark = h.mark;
     [
-        h.sender as u64,
-        h.configuration as u64,
-        h.green_length as u64,
-        h.attempt.0 as u64,
-        last.index.0 as u64,
-        last.attempt.0 as u64,
-        last.set as u64,
-        mark.status as u64,
-        mark.index.0 as u64,
-        mark.attempt.0 as u64,
-        mark.set as u64,
-        mark.bits as u64,
-        h.yellow_status as u64,
+        u64::from(h.sender),
+        u64::from(h.configuration),
+        u64::from(h.green_length),
+        u64::from(h.attempt.0),
+        u64::from(last.index.0),
+        u64::from(last.attempt.0),
+        u64::from(last.set),
+        u64::from(mark.status),
+        u64::from(mark.index.0),
+        u64::from(mark.attempt.0),
+        u64::from(mark.set),
+        u64::from(mark.bits),
+        u64::from(h.yellow_status),
     ]
 }
 
 // The cuts in hexadecimal.
-fn cuts(e: &[u8], at: usize, n: usize)
+fn cuts<W: Write>(out: &mut W, e: &[u8], at: usize, n: usize) -> Result<()>
     requires { at + cut_size * n ≤ length e.now }
 {
-    io::write_all(1, b" cuts ");
-    let end = at + State::CUT * n;
-    hex(&e[at..end]);
+    write!(out, " cuts {}", Hex(&e[at..at + State::CUT * n]))
 }
 
 // How many ids there are, and a digest of their bytes.
-fn ids(e: &[u8], at: usize, count: usize)
+fn ids<W: Write>(out: &mut W, e: &[u8], at: usize, count: usize) -> Result<()>
     requires { at + id_size * count ≤ length e.now }
 {
-    labelled(b" ids", count as u64);
-    let end = at + State::ID * count;
-    bytes(&e[at..end]);
+    write!(out, " ids {count}{}", Bytes(&e[at..at + State::ID * count]))
 }
 
-fn state(c: Context, s: StateAt, e: &[u8])
+fn state<W: Write>(out: &mut W, c: Context, s: StateAt, e: &[u8]) -> Result<()>
     requires { PlacedState c s e.now }
 {
-    name(Event::STATE);
     let h = s.head;
-    numbers(state_numbers(h), 13);
-    let cuts_at = s.cuts_at;
-    cuts(e, cuts_at, h.servers as usize);
-    let yellow_at = s.yellow_at;
-    ids(e, yellow_at, h.yellow_count as usize);
+    let numbers = state_numbers(h);
+    write!(out, "State{}", Numbers(&numbers))?;
+    cuts(out, e, s.cuts_at, usize::from(h.servers))?;
+    ids(out, e, s.yellow_at, usize::from(h.yellow_count))
 }
 
-fn request(e: &[u8], at: usize, m: usize)
+fn request<W: Write>(out: &mut W, e: &[u8], at: usize, m: usize) -> Result<()>
     requires { PlacedPayload at m e.now }
 {
-    name(Event::REQUEST);
-    payload(e, at, m);
+    write!(out, "request")?;
+    payload(out, e, at, m)
 }
 
-fn transitional(set: u64) {
-    name(Event::TRANSITIONAL);
-    number(set);
-}
-
-pub fn event(c: Context, v: Event, e: &[u8])
+// Stays: c, v and e stay parameters, since `PlacedEvent` is not a proposition as a ghost field has to be (c).
+pub fn event<W: Write>(out: &mut W, c: Context, v: Event, e: &[u8]) -> Result<()>
     requires { PlacedEvent c v e.now }
 {
     match v {
-        Event::Action(a) => action(c, a, e),
-        Event::Retransmission {
-            sender,
-            position,
-            action,
-        } => retransmission(c, sender, position, action, e),
-        Event::State(s) => state(c, s, e),
-        Event::Cpc {
-            sender,
-            configuration,
-        } => pair(Event::CPC, sender as u64, configuration as u64),
-        Event::Regular { configuration, set } => {
-            pair(Event::REGULAR, configuration as u64, set as u64)
+            Event::Action(a) => action(out, c, a, e),
+            Event::Retransmission {
+                sender,
+                position,
+                action,
+            } => retransmission(out, c, sender, position, action, e),
+            Event::State(s) => state(out, c, s, e),
+            Event::Cpc {
+                sender,
+                configuration,
+            } => write!(out, "CPC {sender} {configuration}"),
+            Event::Regular { configuration, set } => write!(out, "regular {configuration} {set}"),
+            Event::Transitional { set } => write!(out, "transitional {set}"),
+            Event::Request {
+                payload_at,
+                payload_length,
+            } => request(out, e, payload_at, payload_length),
+            Event::Recovery => write!(out, "recovery"),
         }
-        Event::Transitional { set } => transitional(set as u64),
-        Event::Request {
-            payload_at,
-            payload_length,
-        } => request(e, payload_at, payload_length),
-        Event::Recovery => name(Event::RECOVERY),
-    }
-}
-
-pub fn refused(k: u8) {
-    labelled(b"refused", k as u64);
-}
-
-// What a writer answered.
-pub fn next(place: usize) {
-    labelled(b" next", place as u64);
-    io::write_all(1, b" ");
-}
-
-pub fn full() {
-    io::write_all(1, b" full");
-}
-
-pub fn room(size: usize) {
-    labelled(b"  room", size as u64);
 }

@@ -1,58 +1,57 @@
 // Vectors for the reader and the writers: the context (servers 1 byte, quota 2, own number 1, configured 1, set 1) and the event.
-ghost use Rattle.std.specs.Prelude.{◌≤◌, length};
-
 use crate::writing;
-use octets::numbers::num16;
 use record::Context;
 use record::range::Limits;
-use vector_tools::output::numbers;
+use std::io::{Result, Write};
+use vector_tools::output::Numbers;
 
-fn context(e: &[u8]) -> Context
-    requires { 6 ≤ length e.now }
-{
-    Context {
-        servers: e[0],
-        quota: num16(e, 1),
-        me: e[3],
-        configured: e[4],
-        set: e[5],
+// The context, and the event's bytes behind it.
+fn split(e: &[u8]) -> Option<(Context, &[u8])> {
+    match e {
+        [servers, high, low, me, configured, set, event @ ..] => {
+            let context = Context {
+                servers: *servers,
+                quota: u16::from_be_bytes([*high, *low]),
+                me: *me,
+                configured: *configured,
+                set: *set,
+            };
+            Some((context, event))
+        }
+        _ => None,
     }
 }
 
 // What the event says.
-pub fn read(e: &[u8]) {
-    if 6 <= e.len() {
-        writing::say(context(e), &e[6..]);
+pub fn read<W: Write>(out: &mut W, e: &[u8]) -> Result<()> {
+    match split(e) {
+        Some((context, event)) => writing::say(out, context, event),
+        None => Ok(()),
     }
 }
 
 // The event written again.
-pub fn write(e: &[u8]) {
-    if 6 <= e.len() {
-        writing::write(context(e), &e[6..]);
+pub fn write<W: Write>(out: &mut W, e: &[u8]) -> Result<()> {
+    match split(e) {
+        Some((context, event)) => writing::write(out, context, event),
+        None => Ok(()),
     }
 }
 
-fn limit_numbers(l: Limits) -> [u64; 13] {
+fn limit_numbers(l: Limits) -> [u64; 8] {
     [
-        l.fewest_servers as u64,
-        l.most_servers as u64,
-        l.least_quota as u64,
-        l.most_quota as u64,
+        u64::from(l.fewest_servers),
+        u64::from(l.most_servers),
+        u64::from(l.least_quota),
+        u64::from(l.most_quota),
         l.most_payload as u64,
-        l.most_index as u64,
-        l.most_number as u64,
-        l.most_length as u64,
-        0,
-        0,
-        0,
-        0,
-        0,
+        u64::from(l.most_index),
+        u64::from(l.most_number),
+        u64::from(l.most_length),
     ]
 }
 
-pub fn limits() {
-    io::write_all(1, b"limits");
-    numbers(limit_numbers(Limits::all()), 8);
-    io::write_all(1, b"\n");
+pub fn limits<W: Write>(out: &mut W) -> Result<()> {
+    let numbers = limit_numbers(Limits::all());
+    writeln!(out, "limits{}", Numbers(&numbers))
 }

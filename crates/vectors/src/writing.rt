@@ -5,16 +5,18 @@ use crate::reading;
 use reader::Reading;
 use record::Context;
 use record::events::{ActionAt, Event, StateAt};
-use vector_tools::output::bytes;
+use std::io::{Result, Write};
+use vector_tools::output::Bytes;
 use writer::records::{Written, write_action, write_cpc, write_retransmission, write_state};
 
-fn action(c: Context, a: ActionAt, e: &[u8], rest: &mut [u8]) -> Written
+fn action(c: Context, a: ActionAt, e: &[u8], room: &mut [u8]) -> Written
     requires { PlacedAction c a e.now }
 {
-    let start = a.payload_at;
-    let end = start + a.payload_length;
-    let head = a.head;
-    write_action(rest, head, &e[start..end])
+    write_action(
+        room,
+        a.head,
+        &e[a.payload_at..a.payload_at + a.payload_length],
+    )
 }
 
 fn retransmission(
@@ -23,127 +25,91 @@ fn retransmission(
     position: u32,
     a: ActionAt,
     e: &[u8],
-    rest: &mut [u8],
+    room: &mut [u8],
 ) -> Written
     requires { PlacedRetransmission c sender position a e.now }
 {
-    let start = a.payload_at;
-    let end = start + a.payload_length;
-    let head = a.head;
-    write_retransmission(rest, sender, position, head, &e[start..end])
+    let payload = &e[a.payload_at..a.payload_at + a.payload_length];
+    write_retransmission(room, sender, position, a.head, payload)
 }
 
-fn state(c: Context, s: StateAt, e: &[u8], rest: &mut [u8]) -> Written
+fn state(c: Context, s: StateAt, e: &[u8], room: &mut [u8]) -> Written
     requires { PlacedState c s e.now }
 {
-    let cuts_at = s.cuts_at;
-    let yellow_at = s.yellow_at;
-    let head = s.head;
-    write_state(rest, head, &e[cuts_at..], &e[yellow_at..])
+    write_state(room, s.head, &e[s.cuts_at..], &e[s.yellow_at..])
 }
 
-// Writes the event at the front of the rest; an event of a kind that the engine does not send is not written.
-fn again(c: Context, v: Event, e: &[u8], rest: &mut [u8]) -> Written
+// Writes the event at the front of the room; an event of a kind that the engine does not send is not written.
+fn again(c: Context, v: Event, e: &[u8], room: &mut [u8]) -> Written
     requires { PlacedEvent c v e.now }
 {
     match v {
-        Event::Action(a) => action(c, a, e, rest),
+        Event::Action(a) => action(c, a, e, room),
         Event::Retransmission {
             sender,
             position,
             action,
-        } => retransmission(c, sender, position, action, e, rest),
-        Event::State(s) => state(c, s, e, rest),
+        } => retransmission(c, sender, position, action, e, room),
+        Event::State(s) => state(c, s, e, room),
         Event::Cpc {
             sender,
             configuration,
-        } => write_cpc(rest, sender, configuration),
+        } => write_cpc(room, sender, configuration),
         _ => Written::Full,
     }
 }
 
-// What the bytes from `start` to `end` say.
-fn reading(c: Context, s: &[u8], start: usize, end: usize) {
-    if end < start {
-        return;
-    }
-    if s.len() < end {
-        return;
-    }
-    say(c, &s[start..end]);
-}
-
-pub fn say(c: Context, e: &[u8]) {
-    let r = reader::read(c, e);
-    match r {
-        Reading::Good(v) => reading::event(c, v, e),
-        Reading::Refused(k) => reading::refused(k),
+pub fn say<W: Write>(out: &mut W, c: Context, e: &[u8]) -> Result<()> {
+    match reader::read(c, e) {
+        Reading::Good(v) => reading::event(out, c, v, e),
+        Reading::Refused(number) => write!(out, "refused {number}"),
     }
 }
 
-// Writes the event three times, each next after the one before, as long as there is room.
-fn fill(c: Context, v: Event, e: &[u8], out: &mut [u8])
+// Writes the event three times, each behind the one before, as long as there is room.
+fn fill<W: Write>(out: &mut W, c: Context, v: Event, e: &[u8], room: &mut [u8]) -> Result<()>
     requires { PlacedEvent c v e.now }
 {
-    let mut at: usize = 0;
-    let mut k: usize = 0;
-    while k < 3 {
-        let w = again(c, v, e, &mut out[at..]);
-        let Written::Next(size) = w else {
-            reading::full();
-            return;
+    let mut at = 0;
+    for _k in 0..3 {
+        let Written::Next(size) = again(c, v, e, &mut room[at..]) else {
+            return write!(out, " full");
         };
-        if out.len() - at < size {
-            return;
+        if room.len() - at < size {
+            return Ok(());
         }
         let next = at + size;
-        reading::next(next);
-        reading(c, out, at, next);
+        write!(out, " next {next} ")?;
+        say(out, c, &room[at..next])?;
         at = next;
-        k += 1;
     }
-}
-
-fn room(c: Context, v: Event, e: &[u8], out: &mut [u8])
-    requires { PlacedEvent c v e.now }
-{
-    reading::room(out.len());
-    fill(c, v, e, out);
-    bytes(out);
-    io::write_all(1, b"\n");
+    Ok(())
 }
 
 // Fills a buffer of this size, which held 238 everywhere.
-fn sized(c: Context, v: Event, e: &[u8], size: usize)
+fn sized<W: Write>(out: &mut W, c: Context, v: Event, e: &[u8], size: usize) -> Result<()>
     requires { PlacedEvent c v e.now }
 {
     let mut space: [u8; 16384] = [238; 16384];
-    let buffer: &mut [u8] = &mut space;
-    if size <= buffer.len() {
-        room(c, v, e, &mut buffer[..size]);
+    if size <= space.len() {
+        let room = &mut space[..size];
+        write!(out, "  room {size}")?;
+        fill(out, c, v, e, room)?;
+        writeln!(out, "{}", Bytes(room))?;
     }
+    Ok(())
 }
 
 // The same for each of the four sizes.
-fn rooms(c: Context, v: Event, e: &[u8])
-    requires { PlacedEvent c v e.now }
-{
+pub fn write<W: Write>(out: &mut W, c: Context, e: &[u8]) -> Result<()> {
     let n = e.len();
-    if n < 1 {
-        return;
+    if let Reading::Good(v) = reader::read(c, e)
+        && 1 <= n
+        && n <= 8192
+    {
+        for size in [n - 1, n, 2 * n - 1, 2 * n] {
+            sized(out, c, v, e, size)?;
+        }
     }
-    if 8192 < n {
-        return;
-    }
-    sized(c, v, e, n - 1);
-    sized(c, v, e, n);
-    sized(c, v, e, 2 * n - 1);
-    sized(c, v, e, 2 * n);
-}
-
-pub fn write(c: Context, e: &[u8]) {
-    let r = reader::read(c, e);
-    if let Reading::Good(v) = r {
-        rooms(c, v, e);
-    }
+    Ok(())
 }

@@ -3,4 +3,4 @@ use borrow.Author.Rules.{rules}
 use Rattle.register_step.proofs.joint_burst.Goals as goal
 
 pub returns-in-Err : goal.returns-in-Err
-returns-in-Err c = search (rules, burst_refused)
+returns-in-Err c = burst_refused _ _ _ _ c.in-Err.refusal _ _ c.from.ensures c.in-Err.ensures c.stopped.ensures

@@ -3,4 +3,4 @@ use Rattle.std.proofs.Common.{rules}
 use Rattle.replay_turns.proofs.answer.Goals as goal
 
 pub returns : goal.returns
-returns c = search (rules, answer_made)
+returns g c = search (rules, answer_made)

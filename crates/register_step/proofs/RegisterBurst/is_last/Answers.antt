@@ -5,8 +5,8 @@ use Rattle.register_step.proofs.RegisterBurst.is_last.Goals as goal
 pub returns-then-self-eq0 : goal.returns-then-self-eq0
 returns-then-self-eq0 c = search (rules, last_none)
 
-pub returns-then-self-eq0-2 : goal.returns-then-self-eq0-2
-returns-then-self-eq0-2 c = search (rules, last_sent)
+pub returns-then-self-ne0 : goal.returns-then-self-ne0
+returns-then-self-ne0 c = search (rules, last_stored)
 
-pub returns : goal.returns
-returns c = search (rules, last_stored)
+pub returns-else-self-ne0 : goal.returns-else-self-ne0
+returns-else-self-ne0 c = search (rules, last_sent)

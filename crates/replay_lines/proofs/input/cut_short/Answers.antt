@@ -1,4 +1,4 @@
-use borrow.Author.Rules.{rules}
+use Rattle.std.proofs.Common.{rules}
 use Rattle.replay_lines.specs.Input.{cut_short}
 use Rattle.base.proofs.TestLaws.{pick_yes, pick_no}
 use Rattle.replay_lines.proofs.input.cut_short.Goals as goal

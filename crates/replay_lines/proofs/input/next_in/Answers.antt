@@ -1,16 +1,16 @@
 use Rattle.replay_lines.proofs.InputLaws.{next_cut, next_event_lem}
 use Rattle.replay_lines.specs.Input.{next_of}
 use Rattle.base.proofs.TestLaws.{choices, pick_yes, pick_no}
-use borrow.Author.Rules.{rules}
+use Rattle.std.proofs.Common.{rules}
 use Rattle.replay_lines.proofs.input.next_in.Goals as goal
 
 pub returns-then-ended : goal.returns-then-ended
 unfolding next_of
 returns-then-ended c = search (rules, choices, pick_yes, pick_no)
 
-pub returns-then-input-lt1 : goal.returns-then-input-lt1
+pub returns-else-ended : goal.returns-else-ended
 unfolding next_of
-returns-then-input-lt1 c = search (rules, choices, pick_yes, pick_no)
+returns-else-ended c = search (rules, choices, pick_yes, pick_no)
 
 pub returns-then-servers-input : goal.returns-then-servers-input
 unfolding next_of

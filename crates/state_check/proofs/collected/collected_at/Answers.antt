@@ -5,5 +5,5 @@ use Rattle.state_check.proofs.collected.collected_at.Goals as goal
 pub returns-then-not-has : goal.returns-then-not-has
 returns-then-not-has c = search (rules, absent_told)
 
-pub returns : goal.returns
-returns c = search (rules, there_told)
+pub returns-else-not-has : goal.returns-else-not-has
+returns-else-not-has c = search (rules, there_told)

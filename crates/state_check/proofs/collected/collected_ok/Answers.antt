@@ -1,8 +1,8 @@
-use native.Mathlib.Omega.{arith}
 use Rattle.state_check.proofs.CollectedCode.{slots_left, first_left, rest_left, collected_start, collected_again, collected_denied, collected_end}
-use borrow.Author.Rules.{rules}
 use mathlib.Core.Path.{ap}
 use mathlib.Core.Bool.{not}
+use native.Mathlib.Omega.{arith}
+use borrow.Author.Rules.{rules}
 use Rattle.state_check.proofs.collected.collected_ok.Goals as goal
 
 pub loop-k-init : goal.loop-k-init
@@ -14,20 +14,10 @@ collected_at-requires c = search (rules, first_left)
 pub returns-then-not-collected_at : goal.returns-then-not-collected_at
 returns-then-not-collected_at c = search (rules, collected_denied)
 
-pub overflow_add-here : goal.overflow_add-here
-overflow_add-here c = omega arith
-
-pub overflow_add-k : goal.overflow_add-k
-overflow_add-k c = omega arith
-
-pub loop-k-smaller : goal.loop-k-smaller
-loop-k-smaller c = omega arith
-
 pub loop-k-preserved : goal.loop-k-preserved
 loop-k-preserved c = (
-  omega arith,
   search (rules, rest_left),
-  collected_again _ _ _ _ _ _ _ _ _ c.loop-k.invariant.2 (omega arith) c.collected_at.ensures (ap not c.if-not-collected_at.false) c.state_size-size.ensures.0,
+  collected_again _ _ _ _ _ _ _ _ _ c.loop-k.invariant.1 (omega arith) c.collected_at.ensures (ap not c.if-not-collected_at.false) c.state_size-size.ensures.0,
 )
 
 pub returns : goal.returns

@@ -1,4 +1,4 @@
-use Prim.Native.Nat.{◌-◌, ◌≤◌}
+use Prim.Native.Nat.{◌-◌}
 use mathlib.Core.Path.{◌≡◌}
 use Rattle.record.specs.Context.{context_of}
 use Rattle.state_check.specs.Collected.{collected_ok}
@@ -7,7 +7,4 @@ use Rattle.state_check.proofs.collected.collected_ok.Given as goal
 
 abbrev pub invariant-loop-k : goal.invariant-loop-k
 invariant-loop-k l =
-    (l.k ≤ l.c.servers) × SlotsLeft l.c l.k l.b l.here × (collected_ok (context_of l.c) l.set l.configuration l.c.servers 0 l.b l.at ≡ collected_ok (context_of l.c) l.set l.configuration (l.c.servers - l.k) l.k l.b l.here)
-
-abbrev pub decreases-loop-k : goal.decreases-loop-k
-decreases-loop-k l = l.c.servers - l.k
+    SlotsLeft l.c l.k l.b l.here × (collected_ok (context_of l.c) l.set l.configuration l.c.servers 0 l.b l.at ≡ collected_ok (context_of l.c) l.set l.configuration (l.c.servers - l.k) l.k l.b l.here)

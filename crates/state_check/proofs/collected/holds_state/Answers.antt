@@ -5,8 +5,8 @@ use Rattle.state_check.proofs.collected.holds_state.Goals as goal
 pub num16-count-requires : goal.num16-count-requires
 num16-count-requires c = search (rules, count_inside)
 
-pub returns-then-not-yellow_count_ok : goal.returns-then-not-yellow_count_ok
-returns-then-not-yellow_count_ok c = search (rules, slot_denied)
+pub returns-then-not-count_ok : goal.returns-then-not-count_ok
+returns-then-not-count_ok c = search (rules, slot_denied)
 
 pub slice_bounds-read-end : goal.slice_bounds-read-end
 slice_bounds-read-end c = search (rules, record-inside)

@@ -7,7 +7,4 @@ use Rattle.state_check.proofs.Gathered.{unread}
 use Rattle.state_check.proofs.slots.zeros.Given as goal
 
 abbrev pub invariant-loop-j : goal.invariant-loop-j
-invariant-loop-j l = (every_at (zero_at l.b) 1 (payload_space - l.m) (l.at + l.m) ≡ unread l.b l.at l.m l.all l.j)
-
-abbrev pub decreases-loop-j : goal.decreases-loop-j
-decreases-loop-j l = payload_space - l.j
+invariant-loop-j l = every_at (zero_at l.b) 1 (payload_space - l.m) (l.at + l.m) ≡ unread l.b l.at l.m l.all l.j

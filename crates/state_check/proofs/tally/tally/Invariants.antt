@@ -1,8 +1,7 @@
+use Prim.Native.Nat.{◌+◌, ◌*◌, ◌-◌}
+use Rattle.image.specs.Layout.{slot_size}
 use Rattle.state_check.proofs.TallyCode.{Counted}
 use Rattle.state_check.proofs.tally.tally.Given as goal
 
-abbrev pub invariant-loop-left : goal.invariant-loop-left
-invariant-loop-left l = Counted l.count l.b l.at l.left l.here l.t
-
-abbrev pub decreases-loop-left : goal.decreases-loop-left
-decreases-loop-left l = l.left
+abbrev pub invariant-loop-k : goal.invariant-loop-k
+invariant-loop-k l = Counted l.count l.b l.at (l.count - l.k) (l.at + slot_size * l.k) l.t

@@ -5,6 +5,3 @@ use Rattle.state_check.proofs.tally.tally_fits.Given as goal
 
 abbrev pub invariant-loop-k : goal.invariant-loop-k
 invariant-loop-k l = tally_fits l.c.quota l.t l.n 0 ≡ tally_fits l.c.quota l.t (l.n - l.k) l.k
-
-abbrev pub decreases-loop-k : goal.decreases-loop-k
-decreases-loop-k l = l.n - l.k

@@ -3,4 +3,4 @@ use Rattle.std.proofs.Common.{rules}
 use Rattle.vectors.proofs.decisions.decide.Goals as goal
 
 pub answers-requires : goal.answers-requires
-answers-requires c = search (rules, zero_holds)
+answers-requires g c = search (rules, zero_holds)

@@ -3,4 +3,4 @@ use Rattle.std.proofs.Common.{rules}
 use Rattle.vectors.proofs.decisions.own_part.Goals as goal
 
 pub part-p-requires : goal.part-p-requires
-part-p-requires c = search (rules, zero_holds)
+part-p-requires g c = search (rules, zero_holds)

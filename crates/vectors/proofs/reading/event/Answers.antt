@@ -3,13 +3,13 @@ use Rattle.std.proofs.Common.{rules}
 use Rattle.vectors.proofs.reading.event.Goals as goal
 
 pub action-requires : goal.action-requires
-action-requires c = search (rules, action_placed)
+action-requires g c = search (rules, action_placed)
 
 pub retransmission-requires : goal.retransmission-requires
-retransmission-requires c = search (rules, retransmission_placed)
+retransmission-requires g c = search (rules, retransmission_placed)
 
 pub state-requires : goal.state-requires
-state-requires c = search (rules, state_placed)
+state-requires g c = search (rules, state_placed)
 
 pub request-requires : goal.request-requires
-request-requires c = search (rules, request_placed)
+request-requires g c = search (rules, request_placed)

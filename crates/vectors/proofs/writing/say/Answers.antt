@@ -3,4 +3,4 @@ use Rattle.std.proofs.Common.{rules}
 use Rattle.vectors.proofs.writing.say.Goals as goal
 
 pub event-requires : goal.event-requires
-event-requires c = search (rules, good_placed)
+event-requires g c = search (rules, good_placed)

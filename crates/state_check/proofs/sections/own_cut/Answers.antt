@@ -1,9 +1,0 @@
-use Rattle.state_check.proofs.SectionCode.{cut_room, cut_told}
-use borrow.Author.Rules.{rules}
-use Rattle.state_check.proofs.sections.own_cut.Goals as goal
-
-pub num16-requires : goal.num16-requires
-num16-requires c = search (rules, cut_room)
-
-pub returns : goal.returns
-returns c = search (rules, cut_told)
