@@ -88,7 +88,7 @@ module _ (b : List ℕ) (s : Stated b) (me low high : ℕ) where
       sym (without_first (at_position me b) low first high (omega arith) white_none ∙ without_last (at_position me b) first last high (omega arith) past_none)
 
 -- What is sent of a part, if there is one.
-sent_of : (Part → List Record) → Maybe Part → List Record
+abbrev sent_of : (Part → List Record) → Maybe Part → List Record
 sent_of f None = []
 sent_of f (Some p) = f p
 
@@ -97,11 +97,11 @@ unfolding pick
 sent_by f true p = refl
 sent_by f false p = refl
 
-high_of : Maybe Part → ℕ
+abbrev high_of : Maybe Part → ℕ
 high_of None = 0
 high_of (Some p) = p.high
 
-there : Maybe Part → ℕ
+abbrev there : Maybe Part → ℕ
 there None = 0
 there (Some p) = 1
 

@@ -23,8 +23,7 @@ overflow_add-sent c = search (rules, sent_fits)
 
 pub loop-i-preserved : goal.loop-i-preserved
 loop-i-preserved c =
-    let n = c.in-Some.ensures in
-    (
+    let n = c.in-Some.ensures in (
       omega (arith, n.over),
       omega (arith, n.over, n.most),
       search (rules, red_again _ _ _ _ _ _ _ _ _ (omega arith) c.loop-i.invariant.2 _ n _ c.from-i.ensures),
