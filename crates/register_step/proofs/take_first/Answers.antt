@@ -5,7 +5,7 @@ use borrow.Author.Rules.{rules}
 use Rattle.register_step.proofs.take_first.Goals as goal
 
 pub returns-in-Ok-None : goal.returns-in-Ok-None
-returns-in-Ok-None c = first_stops _ _ _ _ 0 0 _ (rw c.in-Ok-None.field-0-is at c.in-Ok-None.ensures.value) refl c.stopped.ensures
+returns-in-Ok-None c = first_stops _ _ _ _ _ 0 0 _ (rw c.in-Ok-None.field-0-is at c.in-Ok-None.ensures.value) refl c.stopped.ensures
 
 pub returns-in-Err : goal.returns-in-Err
 returns-in-Err c = first_stops _ _ _ _ _ _ _ _ c.in-Err.ensures.value c.from.ensures c.stopped-in-Err.ensures
