@@ -5,6 +5,9 @@ use mathlib.Core.Bool.{Bool, true, false}
 use mathlib.Core.List.{List, [], ◌∷◌, ◌++◌, append-nil}
 use native.Mathlib.Omega.{arith}
 use lib.ListN.{length, get_or, set, replicate, length-set, length-replicate}
+use Rattle.std.specs.Prelude.{Option, Some, None}
+use mir.Syntax.{w64}
+use mir.Val.{Fits}
 use Rattle.base.specs.Lists.{filter}
 use Rattle.base.specs.Tests.{pick, ◌or◌}
 use Rattle.base.proofs.TestLaws.{not_both, pick_yes, pick_no, Known, known, holds, fails}
@@ -16,9 +19,11 @@ use Rattle.format.specs.Types.{Id, Context}
 use Rattle.format.specs.Range.{same_id, has_id, id_ok}
 use Rattle.format.specs.Read.{id_at, ids_at}
 use Rattle.format.proofs.Ranges.{id_range}
-use Rattle.record.specs.Values.{slot, place_of, Marked}
+use Rattle.record.specs.Values.{id_of, the_id, slot, table_place, Marked}
+use Rattle.record.specs.declared.ActionId.{ActionId}
+use Rattle.record.specs.Events.{id_in}
 use Rattle.record.proofs.OnePass.{Small, slot_lt, unmarked_new, marked_set}
-use Rattle.record.proofs.Turns.{place_in_lem, place_out, ids_by_id, ids_last}
+use Rattle.record.proofs.Turns.{placed_in, placed_out, ids_by_id, ids_last}
 use Rattle.replication.proofs.WellFormed.Ids.{same_id_holds}
 use Rattle.exchange.specs.Hints.{sought_in, hinted, Hinted}
 use Rattle.exchange.specs.Table.{place_in}
@@ -84,17 +89,6 @@ hints_end c m k e h x l =
     let z : k ≡ m = omega (arith, x.low) in
     subst (λ (i : ℕ). Marked h (filter (id_ok c) (ids_at i e 0))) z x.left
 
--- One id, as the code leaves its hint: p is its place.
-pub hint_none : (c : Context) (k p : ℕ) (d : Id) (h : List ℕ) → Small c → p ≡ place_of c d → most_ids ≤ p → h ≡ hinted c k d h
-unfolding hinted
-hint_none c k p d h s f g = pick_no _ _ _ _ (place_out c d p s (known (id_ok c d)) f g) refl
-
-pub hint_left : (c : Context) (k p : ℕ) (d : Id) (h : List ℕ) → p ≡ place_of c d → p < most_ids → set h p (k + 1) ≡ hinted c k d h
-unfolding hinted
-hint_left c k p d h f g =
-    let z = place_in_lem c d p (known (id_ok c d)) f g in
-    pick_yes _ _ _ _ z.0 (ap (λ (i : ℕ). set h i (k + 1)) z.1)
-
 -- ---- an id without one
 
 place_none : (d : Id) (l : List Id) → has_id d l ≡ false → place_in d l ≡ length l
@@ -116,11 +110,39 @@ has_filtered c d (x ∷ l) h = go (known (same_id d x)) (known (id_ok c x)) (has
     go (holds e) (fails y) i = not_both (sym (sym h ∙ ap (id_ok c) (same_id_holds d x e) ∙ y))
     go (fails e) (fails y) i = sym (or_no _ _ _ e refl) ∙ i ∙ ap (has_id d) (sym (filter_no (id_ok c) x l y))
 
-pub hint_absent : (c : Context) (m p k : ℕ) (e h : List ℕ) (d : Id) → Hinted c (sought_in m e) h → p ≡ place_of c d → p < most_ids → k ≡ get_or h p 0 → k < 1
-    → place_in d (sought_in m e) ≡ m
-unfolding Hinted
-hint_absent c m p k e h d x f g j n =
-    let z = place_in_lem c d p (known (id_ok c d)) f g in
-    let empty : get_or h (slot d) 0 ≡ 0 = omega (arith, j, n, ap (λ (i : ℕ). get_or h i 0) z.1) in
-    let absent : has_id d (sought_in m e) ≡ false = has_filtered c d (sought_in m e) z.0 ∙ unmarked_new h d (filter (id_ok c) (sought_in m e)) x empty in
-    place_none d (sought_in m e) absent ∙ sought_count m e
+-- ---- one id: x is what the code read of it, and o its place, if any
+
+module _ (c : Context) (x : ActionId) (b : List ℕ) (at : ℕ) (r : x ≡ id_in b at) (o : Option ℕ) (f : o ≡ table_place c (the_id x)) where
+  its_place : table_place c (id_at b at) ≡ o
+  unfolding id_of id_at
+  its_place = sym (f ∙ ap (λ (y : ActionId). table_place c (the_id y)) r)
+
+  pub hint_inside : (p : ℕ) → o ≡ Some p → Small c → p < most_ids
+  hint_inside p g s =
+      let z = placed_in c (id_at b at) p (its_place ∙ g) in
+      omega (arith, z.1, slot_lt c (id_at b at) s (id_range c (id_at b at) z.0))
+
+  -- An entry of the table has two bytes.
+  pub hint_offset : (p : ℕ) → o ≡ Some p → Small c → Fits w64 (p * 2)
+  hint_offset p g s = record { fits = omega (arith, hint_inside p g s) }
+
+  -- As the code leaves its hint.
+  pub hint_none : (k : ℕ) (h : List ℕ) → o ≡ None → h ≡ hinted c k (id_at b at) h
+  unfolding hinted
+  hint_none k h g = pick_no _ _ _ _ (placed_out c (id_at b at) (its_place ∙ g)) refl
+
+  pub hint_left : (k p : ℕ) (h : List ℕ) → o ≡ Some p → set h p (k + 1) ≡ hinted c k (id_at b at) h
+  unfolding hinted
+  hint_left k p h g =
+      let z = placed_in c (id_at b at) p (its_place ∙ g) in
+      pick_yes _ _ _ _ z.0 (ap (λ (i : ℕ). set h i (k + 1)) z.1)
+
+  -- No hint stands at its place.
+  pub hint_absent : (m p k : ℕ) (e h : List ℕ) → Hinted c (sought_in m e) h → o ≡ Some p → k ≡ get_or h p 0 → k < 1 → place_in (id_at b at) (sought_in m e) ≡ m
+  unfolding Hinted
+  hint_absent m p k e h y g j n =
+      let d : Id = id_at b at in
+      let z = placed_in c d p (its_place ∙ g) in
+      let empty : get_or h (slot d) 0 ≡ 0 = omega (arith, j, n, ap (λ (i : ℕ). get_or h i 0) z.1) in
+      let absent : has_id d (sought_in m e) ≡ false = has_filtered c d (sought_in m e) z.0 ∙ unmarked_new h d (filter (id_ok c) (sought_in m e)) y empty in
+      place_none d (sought_in m e) absent ∙ sought_count m e

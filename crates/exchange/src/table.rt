@@ -15,9 +15,7 @@ ghost use Rattle.exchange.specs.First.{the_list};
 
 use crate::first_list::FirstList;
 use crate::states::States;
-use octets::numbers::wider;
 use record::events::StateHead;
-use record::lists::place_at;
 use record::parts::id_at as id_read;
 use record::sets::has;
 use record::{ActionId, Context, State};
@@ -27,10 +25,9 @@ fn leave_hint(c: Context, first: &[u8], k: usize, t: &mut [u16; State::MOST_IDS]
     requires { ContextIn c × (id_size * k + id_size ≤ length first.now) × (k < most_ids) }
     ensures { t.new ≡ hinted (context_of c) k (id_at first.now (id_size * k)) t.old }
 {
-    let p = place_at(c, first, State::ID * k);
-    if State::MOST_IDS <= p {
+    let Some(p) = id_read(first, State::ID * k).place(c) else {
         return;
-    }
+    };
     t[p] = (k + 1) as u16;
 }
 
@@ -80,17 +77,16 @@ impl<'a> FirstList<'a> {
     }
 
     // Where the id from `at` on stands in the list, by its hint.
-    // Stays: the bytes with a place (d): record's `place_at` and `id_at` take the same two.
+    // Stays: the bytes with a place (d): record's `id_at` takes the same two.
     fn place_hinted(&self, e: &[u8], at: usize) -> Option<usize>
         requires { at + id_size ≤ length e.now }
         ensures { Stands (id_at e.now at) self.now.count self.now.bytes.now result }
     {
         let id = id_read(e, at);
-        let p = place_at(self.context, e, at);
-        if State::MOST_IDS <= p {
+        let Some(p) = id.place(self.context) else {
             return self.search(id);
-        }
-        let k = wider(self.hints[p]) as usize;
+        };
+        let k = usize::from(self.hints[p]);
         if k < 1 {
             return None;
         }

@@ -29,13 +29,6 @@ pub fn num32(e: &[u8], at: usize) -> u32
     u32::from_be_bytes([e[at], e[at + 1], e[at + 2], e[at + 3]])
 }
 
-// Goes when its users have gone over to u32::from.
-pub fn wider(b: u16) -> u32
-    ensures { (result ≡ b) × (result < 65536) }
-{
-    u32::from(b)
-}
-
 // A number of one byte; put16 and put32: of two and of four.
 pub fn put8(out: &mut [u8], at: usize, v: u8)
     requires { at + 1 ≤ length out.old }

@@ -12,7 +12,6 @@ use lib.ListN.{length, get_or, set, length-set}
 use borrow.Author.Tests.{not-true, not-false}
 use mir.Syntax.{w64}
 use mir.Val.{Fits}
-use Rattle.format.specs.Limits.{most_ids}
 use Rattle.format.specs.Places.{id_size}
 use Rattle.base.specs.Tests.{◌and◌, ◌or◌}
 use Rattle.base.proofs.TestLaws.{not_both, pick_yes, pick_no, and_yes, and_no, both_yes, Known, known, holds, fails}
@@ -25,8 +24,8 @@ use Rattle.record.specs.declared.Context.{Context}
 use Rattle.record.specs.Context.{context_of, ContextIn}
 use Rattle.record.specs.declared.ActionId.{ActionId}
 use Rattle.record.specs.Events.{id_in}
-use Rattle.record.specs.Values.{id_of, the_id, slot, table_place, place_of, ids_by, IdsInside, HasPlaces, Marked, Met}
-use Rattle.record.proofs.OnePass.{Small, pass, slot_lt, slot_below, pass_starts, unmarked_new, marked_last, marked_set}
+use Rattle.record.specs.Values.{id_of, the_id, slot, table_place, ids_by, IdsInside, HasPlaces, Marked, Met}
+use Rattle.record.proofs.OnePass.{Small, pass, slot_below, pass_starts, unmarked_new, marked_last, marked_set}
 
 -- the ids
 
@@ -49,28 +48,10 @@ ids_by_id (suc m) e at = ap (λ (l : List Id). id_at e at ∷ l) (ids_by_id m e 
 pub ids_each : (c : FormatContext) (e : List ℕ) (at m : ℕ) (r : Bool) → r ≡ ids_ok c (ids_by id_size m e at) → r ≡ ids_ok c (ids_at m e at)
 ids_each c e at m r h = h ∙ ap (ids_ok c) (ids_by_id m e at)
 
--- The first of the entries that are left, and the others.
-
+-- A context in range is small.
 pub small : (c : Context) → ContextIn c → Small (context_of c)
 unfolding context_of
 small c h = record { servers = h.most }
-
--- An id has a place below 2048 exactly where it is in range.
-
-pub place_out : (c : FormatContext) (x : Id) (p : ℕ) → Small c → Known (id_ok c x) → p ≡ place_of c x → most_ids ≤ p → id_ok c x ≡ false
-unfolding place_of
-place_out c x p s (holds e) f g =
-    let a = slot_lt c x s (id_range c x e) in
-    let b : p ≡ slot x = f ∙ sym (pick_yes (id_ok c x) _ _ _ e refl) in
-    absurd (omega arith)
-place_out c x p s (fails e) f g = e
-
-pub place_in_lem : (c : FormatContext) (x : Id) (p : ℕ) → Known (id_ok c x) → p ≡ place_of c x → p < most_ids → (id_ok c x ≡ true) × (p ≡ slot x)
-unfolding place_of
-place_in_lem c x p (holds e) f g = (e, f ∙ sym (pick_yes (id_ok c x) _ _ _ e refl))
-place_in_lem c x p (fails e) f g =
-    let b : p ≡ most_ids = f ∙ sym (pick_no (id_ok c x) _ _ _ e refl) in
-    absurd (omega arith)
 
 -- The place of an id in range, and none of any other.
 
@@ -253,21 +234,6 @@ pass_start c w m e at =
     let z : m ≡ m - 0 = omega arith in
     let y : at ≡ at + w * 0 = omega arith in
     pass_starts c (ids_by w m e at) ∙ (λ i. pass c [] (ids_by w (z i) e (y i)))
-
--- ---- the place of an id as a number
-
-module _ (c : FormatContext) (e : List ℕ) (at : ℕ) (d : ActionId) (r : d ≡ id_in e at) (o : Option ℕ) (f : o ≡ table_place c (the_id d)) where
-  read_place : place_of c (the_id d) ≡ place_of c (id_at e at)
-  unfolding id_of id_at
-  read_place = ap (λ (x : ActionId). place_of c (the_id x)) r
-
-  pub place_some : (p : ℕ) → o ≡ Some p → p ≡ place_of c (id_at e at)
-  unfolding place_of
-  place_some p g = let z = placed_in c (the_id d) p (sym f ∙ g) in pick_yes (id_ok c (the_id d)) p (slot (the_id d)) most_ids z.0 z.1 ∙ read_place
-
-  pub place_none : o ≡ None → most_ids ≡ place_of c (id_at e at)
-  unfolding place_of
-  place_none g = pick_no (id_ok c (the_id d)) most_ids (slot (the_id d)) most_ids (placed_out c (the_id d) (sym f ∙ g)) refl ∙ read_place
 
 -- ---- an id compared with the one at a place
 

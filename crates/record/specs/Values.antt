@@ -3,7 +3,7 @@ use Rattle.std.specs.Prelude.{ℕ, zero, suc, ◌+◌, ◌*◌, ◌%◌, ◌≤�
 use Rattle.base.specs.Tests.{pick, ◌and◌}
 use Rattle.base.specs.Bytes.{numbers_at}
 use Rattle.base.specs.Lists.{Each}
-use Rattle.format.specs.Limits.{most_quota_limit, most_ids}
+use Rattle.format.specs.Limits.{most_quota_limit}
 use Rattle.format.specs.Places.{cut_size, id_size}
 use Rattle.format.specs.Types.{Id, Action, Primary, Mark as FormatMark, State, Record, retransmission, Context}
 use Rattle.format.specs.Range.{id_ok, has_id}
@@ -67,10 +67,6 @@ slot d = d.creator * most_quota_limit + d.index % most_quota_limit
 -- An id that is out of range has none.
 unfoldable pub table_place : Context → Id → Option ℕ
 table_place c d = pick (id_ok c d) (Some (slot d)) None
-
--- The same, where the place past every table's end stands for none. Goes when its users have gone over.
-unfoldable pub place_of : Context → Id → ℕ
-place_of c d = pick (id_ok c d) (slot d) most_ids
 
 -- m ids, each at the front of w bytes, from `at` on.
 unfoldable pub ids_by : (w m : ℕ) → List ℕ → ℕ → List Id

@@ -5,7 +5,7 @@ ghost use Rattle.format.specs.Places.{id_size};
 ghost use Rattle.format.specs.Range.{has_id, ids_ok};
 ghost use Rattle.format.specs.Read.{id_at, ids_at};
 ghost use Rattle.record.specs.Context.{context_of, ContextIn};
-ghost use Rattle.record.specs.Values.{the_id, slot, table_place, place_of, ids_by, IdsInside, HasPlaces, NextId, MetAt};
+ghost use Rattle.record.specs.Values.{the_id, slot, table_place, ids_by, IdsInside, HasPlaces, NextId, MetAt};
 
 use crate::parts::id_at;
 use crate::range::id_ok;
@@ -31,17 +31,6 @@ impl ActionId {
         } else {
             None
         }
-    }
-}
-
-// Goes when its users have gone over.
-pub fn place_at(c: Context, e: &[u8], at: usize) -> usize
-    requires { ContextIn c × (at + id_size ≤ length e.now) }
-    ensures { result ≡ place_of (context_of c) (id_at e.now at) }
-{
-    match id_at(e, at).place(c) {
-        Some(p) => p,
-        None => State::MOST_IDS,
     }
 }
 

@@ -4,7 +4,7 @@ ghost use Rattle.format.specs.Places.{id_size, action_head_size, primary_size, m
 ghost use Rattle.format.specs.Range.{same_id};
 ghost use Rattle.format.specs.Read.{id_at};
 ghost use Rattle.record.specs.Events.{id_in, action_in, last_in, mark_in, head_in};
-ghost use Rattle.record.specs.Values.{id_of, the_id};
+ghost use Rattle.record.specs.Values.{the_id};
 
 use crate::events::{ActionAt, Event, StateHead};
 use crate::{ActionHead, ActionId, AttemptIndex, LastPrimary, Mark, PrimaryIndex};
@@ -29,14 +29,6 @@ impl ActionId {
     {
         self == id_at(e, at)
     }
-}
-
-// Goes when its users have gone over.
-pub fn is_id(e: &[u8], at: usize, creator: u8, index: u16) -> bool
-    requires { at + id_size ≤ length e.now }
-    ensures { result ≡ same_id (id_of creator index) (id_at e.now at) }
-{
-    ActionId { creator, index }.is_at(e, at)
 }
 
 // The action from `at` on.
