@@ -100,11 +100,10 @@ serving_starts servers quota r x a c b f = record {
 }
 
 module _ (servers quota : ℕ) (s r : Standing) (h : Serving servers quota s) (more : Bool) (a : Advanced s r more) where
-  pub serving_ends : more ≡ false → Served servers quota false
+  pub serving_ends : more ≡ false → Served servers quota r false
   serving_ends m = record {
     parts = h.parts;
     text = h.text ++ (passes_at s).text;
-    standing = r;
     reached = ends h.parts h.text s r h.reached (subst (Advanced s r) m a);
   }
 
@@ -117,5 +116,5 @@ module _ (servers quota : ℕ) (s r : Standing) (h : Serving servers quota s) (m
         reached = goes_on h.parts h.text s r h.reached on;
       }
 
-pub serving_served : (servers quota : ℕ) (s : Standing) → Serving servers quota s → Served servers quota true
-serving_served servers quota s h = record { parts = h.parts; text = h.text; standing = s; reached = h.reached }
+pub serving_served : (servers quota : ℕ) (s : Standing) → Serving servers quota s → Served servers quota s true
+serving_served servers quota s h = record { parts = h.parts; text = h.text; reached = h.reached }

@@ -40,11 +40,10 @@ pub data Reached (servers quota : ℕ) : (parts : List (List ℕ)) → (text : L
       → Reached servers quota parts (text ++ (passes_at s).text) r false
 
 -- What `serve` has come to.
-pub record Served (servers quota : ℕ) (more : Bool) : Type 0 where
+pub record Served (servers quota : ℕ) (s : Standing) (more : Bool) : Type 0 where
   pub parts : List (List ℕ)
   pub text : List ℕ
-  pub standing : Standing
-  pub reached : Reached servers quota parts text standing more
+  pub reached : Reached servers quota parts text s more
 
 -- Where the program ends after a good set-up, the header and the lines that it has printed are what document 01 says. The parts that it has
 -- read are the first of those that the input is cut into, the last of which is its end.

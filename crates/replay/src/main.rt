@@ -94,9 +94,9 @@ impl Standing {
     }
 }
 
-// Events from the input's start on, until it ends or is wrong; whether there may be more.
-fn serve(stdin: Stdin, setup: Setup) -> bool
-    ensures { Served setup.servers setup.quota result }
+// Events from the input's start on, until it ends or is wrong: where the program stands then, and whether there may be more.
+fn serve(stdin: Stdin, setup: Setup) -> (Standing, bool)
+    ensures { Served setup.servers setup.quota result.0 result.1 }
 {
     let mut standing = Standing {
         replay: Replay::new(setup),
@@ -105,10 +105,10 @@ fn serve(stdin: Stdin, setup: Setup) -> bool
     // Bounds how often is read: every input ends before that.
     for _left in 0..u64::MAX {
         if !standing.advance(stdin) {
-            return false;
+            return (standing, false);
         }
     }
-    true
+    (standing, true)
 }
 
 // However the input is cut into parts, what is printed of them is what document 01 says.
