@@ -15,3 +15,6 @@ slice_bounds-take_event-end c = search (rules, first_size_lem)
 
 pub returns-in-Ok : goal.returns-in-Ok
 returns-in-Ok c = search (rules, first_taken)
+
+pub returns-in-Err-take_event : goal.returns-in-Err-take_event
+returns-in-Err-take_event c = search (rules, first_refused, refusal_some)
