@@ -5,6 +5,7 @@ ghost use Rattle.burst.specs.Burst.{cut_short, next_of, EndsIn};
 ghost use Rattle.burst.specs.Next.{next_as};
 
 use octets::numbers::num16;
+use record::Kind;
 use record::events::{Event, VERSION};
 use refusals::Refusal;
 
@@ -38,7 +39,7 @@ pub fn is_recovery(e: &[u8]) -> bool
     if e[Event::VERSION_AT] != VERSION {
         return false;
     }
-    e[Event::KIND_AT] == Event::RECOVERY
+    e[Event::KIND_AT] == u8::from(Kind::Recovery)
 }
 
 // The size of the event that comes next in the slice, if one that may be taken does; whether it would stand first.

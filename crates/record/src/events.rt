@@ -124,22 +124,3 @@ impl Event {
 
     pub const RECOVERY_SIZE: usize = Event::BODY;
 }
-
-// The kind bytes, as `Kind` has them. Goes when its users have gone over.
-impl Event {
-    pub const ACTION: u8 = 1;
-
-    pub const RETRANSMISSION: u8 = 2;
-
-    pub const STATE: u8 = 3;
-
-    pub const CPC: u8 = 4;
-
-    pub const REGULAR: u8 = 5;
-
-    pub const TRANSITIONAL: u8 = 6;
-
-    pub const REQUEST: u8 = 7;
-
-    pub const RECOVERY: u8 = 8;
-}

@@ -180,7 +180,7 @@ impl State {
 
     pub const MOST_LENGTH: u32 = State::MOST_SERVERS as u32 * State::MOST_NUMBER as u32;
 
-    // The numbers of the eight states, as `Mode` has them. Goes when its users have gone over.
+    // The numbers of the eight states, as a state's byte has them (`Mode`'s own order).
     pub const NON_PRIM: u8 = 0;
 
     pub const REG_PRIM: u8 = 1;

@@ -115,28 +115,6 @@ impl<'a> Ids<'a> {
     }
 }
 
-// Goes when its users have gone over.
-pub fn is_new(
-    c: Context,
-    e: &[u8],
-    at: usize,
-    step: usize,
-    count: usize,
-    here: usize,
-    met: &mut [u8],
-) -> bool
-    requires { ContextIn c × NextId step count e.now at here c.servers met.old }
-    ensures { MetAt (context_of c) step count e.now at here result met.old met.new }
-{
-    let before = Ids {
-        bytes: e,
-        at,
-        step,
-        count,
-    };
-    before.is_new(c, here, met)
-}
-
 // Whether the `count` ids from `at` on are in range and differ.
 pub fn ids_ok(c: Context, e: &[u8], at: usize, count: usize) -> bool
     requires { ContextIn c × (at + id_size * count ≤ length e.now) }

@@ -42,19 +42,3 @@ pub fn outcome_number(outcome: Result<(), Refusal>) -> u32
         Err(refusal) => u32::from(refusal),
     }
 }
-
-// The same numbers by name.
-
-pub const BAD_RECORD: u32 = 1;
-
-pub const OUT_OF_RANGE: u32 = 2;
-
-pub const QUOTA_USED: u32 = 3;
-
-pub const NOT_NOW: u32 = 5;
-
-pub const NOT_FROM_HERE: u32 = 6;
-
-pub const SHORT_BUFFER: u32 = 7;
-
-pub const BAD_STATE: u32 = 8;
