@@ -22,7 +22,7 @@ const MOST_INPUT: usize = 131072;
 fn line<W: Write>(out: &mut W, base: &mut [u8; ROOM], s: &[u8]) -> Result<()> {
     let (digits, label) = split_label(s);
     let mut room = io::buffer();
-    vector::vector(out, base, decode(digits, &mut room))?;
+    vector::answer(out, base, decode(digits, &mut room))?;
     out.write_all(label)?;
     out.write_all(b"\n")
 }

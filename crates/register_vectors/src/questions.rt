@@ -4,6 +4,7 @@ use crate::report::{ROOM, changes};
 use crate::runs::found;
 use octets::numbers::num32;
 use register_check::coordinates::millimetres;
+use register_check::refusing::answer_number;
 use register_queries::{in_radius, in_rectangle, nearest_on};
 use std::io::{Result, Write};
 
@@ -40,18 +41,19 @@ fn coordinate(e: &[u8], at: usize) -> i32 {
 fn ask(region: Region, register: &[u8], e: &[u8], answer: &mut [u8]) -> u32 {
     let easting = coordinate(e, FIRST);
     let northing = coordinate(e, SECOND);
-    match region {
+    let asked = match region {
         Region::Rectangle => {
             let east = coordinate(e, THIRD);
             let north = coordinate(e, FOURTH);
             in_rectangle(register, easting, northing, east, north, answer)
         }
         Region::Circle => in_radius(register, easting, northing, bits(e, THIRD), answer),
-    }
+    };
+    answer_number(asked)
 }
 
 // The number, and what became of the answer's buffer, whose first bytes are lent.
-pub fn region<W: Write>(out: &mut W, region: Region, register: &[u8], e: &[u8]) -> Result<()> {
+pub fn in_region<W: Write>(out: &mut W, region: Region, register: &[u8], e: &[u8]) -> Result<()> {
     let before: [u8; ROOM] = [FILL; ROOM];
     let mut answer = before;
     let length = bits(e, 0) as usize;

@@ -1,7 +1,9 @@
 // What a vector does with the register.
-use crate::questions::{Region, nearest, region};
+use crate::questions::{Region, in_region, nearest};
 use octets::numbers::num16;
+use refusals::outcome_number;
 use register::{apply_on, start};
+use register_check::refusing::answer_number;
 use register_check::{RegisterFind, find};
 use std::io::{Result, Write};
 use vector_tools::patch::patch;
@@ -71,7 +73,7 @@ fn numbered(payload: &[u8], name: u8, k: u16) -> [u8; MOST_PAYLOAD] {
 fn one(register: &mut [u8], payload: &[u8], name: u8, k: u16) -> u32 {
     let p = numbered(payload, name, k);
     if payload.len() <= MOST_PAYLOAD {
-        apply_on(register, &p[..payload.len()])
+        answer_number(apply_on(register, &p[..payload.len()]))
     } else {
         0
     }
@@ -100,18 +102,18 @@ fn many<W: Write>(out: &mut W, register: &mut [u8], e: &[u8]) -> Result<()> {
 pub fn run<W: Write>(out: &mut W, kind: Kind, register: &mut [u8], e: &[u8]) -> Result<()> {
     match kind {
         Kind::Start => {
-            let number = start(register);
+            let number = outcome_number(start(register));
             write!(out, "{number}")
         }
         Kind::Apply => {
-            let number = apply_on(register, e);
+            let number = answer_number(apply_on(register, e));
             write!(out, "{number}")
         }
         Kind::Many => many(out, register, e),
         Kind::Find => found(out, find(register, e)),
         Kind::Change => Ok(()),
-        Kind::Inside => region(out, Region::Rectangle, register, e),
-        Kind::Within => region(out, Region::Circle, register, e),
+        Kind::Inside => in_region(out, Region::Rectangle, register, e),
+        Kind::Within => in_region(out, Region::Circle, register, e),
         Kind::Nearest => nearest(out, register, e),
     }
 }

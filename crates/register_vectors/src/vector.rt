@@ -52,7 +52,7 @@ fn lend<W: Write>(out: &mut W, kind: Kind, work: &mut [u8; ROOM], v: &Vector<'_>
 }
 
 // Where bytes are changed for this vector alone, what comes of it is dropped.
-pub fn vector<W: Write>(out: &mut W, base: &mut [u8; ROOM], e: &[u8]) -> Result<()> {
+pub fn answer<W: Write>(out: &mut W, base: &mut [u8; ROOM], e: &[u8]) -> Result<()> {
     let Some(v) = Vector::read(e) else {
         return Ok(());
     };

@@ -1,5 +1,8 @@
--- What the state check's 0 says of a buffer.
+-- What it says of a buffer that the state check accepts it.
 use Rattle.std.proofs.Common.{◌≡◌, ℕ, ◌<◌, List, sym, ap, ◌∙◌, arith}
+use Rattle.std.specs.Prelude.{⊤, Result, Ok}
+use Rattle.refusals.specs.declared.Refusal.{Refusal}
+use Rattle.refusals.specs.Numbers.{outcome_number}
 use Rattle.base.specs.Bytes.{number_at}
 use Rattle.record.specs.declared.State.{State}
 use Rattle.image.specs.Layout.{at_servers}
@@ -11,8 +14,8 @@ use Rattle.image.proofs.HeaderLaws.{header_loaded}
 use Rattle.image.proofs.InPlace.{holds_some}
 use Rattle.image.proofs.Refusals.{zero_ready}
 
-pub zero_holds : (b o : List ℕ) (r : ℕ) → r ≡ state_number b o → r ≡ 0 → HoldsSome b
-zero_holds b o r e h = holds_some (decoded b) b (zero_ready b o (sym e ∙ h)).image
+pub accepted_holds : (b o : List ℕ) (r : Result ⊤ Refusal) (x : ⊤) → outcome_number r ≡ state_number b o → r ≡ Ok x → HoldsSome b
+accepted_holds b o r x e h = holds_some (decoded b) b (zero_ready b o (sym e ∙ ap outcome_number h)).image
 
 pub creator_held : (b : List ℕ) (n c : ℕ) → HoldsSome b → n ≡ number_at 1 b at_servers → c < n → HoldsSuch (λ s. c < s.servers) b
 unfolding header_in header_of

@@ -3,12 +3,12 @@ ghost use Rattle.std.specs.Prelude.{◌≤◌};
 ghost use Rattle.format.specs.Limits.{most_servers_limit};
 
 use image::header::{load, save};
-use image::places::{state_size, states_at};
+use image::sizes::Sizes;
 use image::start;
-use record::State;
 use record::events::Event;
 use record::range::{product, sizes_ok};
 use record::sets::{has, with_member};
+use record::{Mode, State};
 use vector_tools::patch::patch;
 
 // The byte at `at`, and 0 past the end.
@@ -38,7 +38,7 @@ pub fn senders(state: &[u8]) -> u8 {
 fn configure(state: &mut [u8], set: u8, cpcs: u8) {
     if State::SIZE <= state.len() {
         let mut t = load(state);
-        t.mode = State::EXCHANGE_STATES;
+        t.mode = u8::from(Mode::ExchangeStates);
         t.configuration_status = 1;
         t.configuration_id = 1;
         t.configuration_set = set;
@@ -48,9 +48,10 @@ fn configure(state: &mut [u8], set: u8, cpcs: u8) {
 }
 
 // Where the slot of server k begins, if there is one.
-fn slot_at(n: u32, q: u32, k: u8) -> Option<usize> {
-    if k < State::MOST_SERVERS && sizes_ok(n, q) {
-        let at = states_at(n, q) + product(u32::from(k), state_size(n, q));
+fn slot_at(servers: u32, quota: u32, k: u8) -> Option<usize> {
+    if k < State::MOST_SERVERS && sizes_ok(servers, quota) {
+        let sizes = Sizes { servers, quota };
+        let at = sizes.states_at() + product(u32::from(k), sizes.state_size());
         Some(at as usize)
     } else {
         None
@@ -98,7 +99,8 @@ pub fn build(state: &mut [u8], e: &[u8]) -> bool {
         u32::from(*servers),
         quota,
         u32::from(me.unwrap_or(0)),
-    ) != 0
+    )
+    .is_err()
     {
         return false;
     }

@@ -6,14 +6,15 @@ ghost use Rattle.image.specs.Holding.{HoldsSome};
 
 use crate::building::{build, number_of, put, senders};
 use exchange::decided::{
-    Part, all_cpcs_in, all_states_in, planned_now, quorum_here, resends_green, resends_red,
-    taken_votes, taken_yellow,
+    all_cpcs_in, all_states_in, planned_now, quorum_here, resends_green, resends_red, taken_votes,
+    taken_yellow,
 };
+use exchange::plan::Part;
 use octets::numbers::num8;
 use record::events::StateHead;
 use record::sets::has;
 use record::{LastPrimary, Mark, State};
-use state_check::state_number;
+use state_check::check_buffers;
 use std::io::{Result, Write};
 use vector_tools::output::Hex;
 
@@ -65,7 +66,7 @@ fn answers<W: Write>(out: &mut W, state: &[u8]) -> Result<()>
 }
 
 // Who resends of those that the server c made, or by position where there is no such server.
-fn part(state: &[u8], c: u8) -> Part
+fn part(state: &[u8], c: u8) -> Option<Part>
     requires { HoldsSome state.now }
 {
     if c < num8(state, State::AT_SERVERS) {
@@ -78,11 +79,10 @@ fn part(state: &[u8], c: u8) -> Part
 // The part of server k, if it is that one's own: it resends those above `low` up to `high`. A server outside the configuration has no state.
 fn own_part<W: Write>(out: &mut W, state: &mut [u8], outgoing: &[u8], k: u8, c: u8) -> Result<()> {
     put(state, State::AT_ME, k);
-    if state_number(state, outgoing) == 0 {
-        let p = part(state, c);
-        if p.mine {
-            write!(out, " {k}:{}-{}", p.low, p.high)?;
-        }
+    if check_buffers(state, outgoing).is_ok()
+        && let Some(p) = part(state, c)
+    {
+        write!(out, " {k}:{}-{}", p.low, p.high)?;
     }
     Ok(())
 }
@@ -108,7 +108,7 @@ fn plan<W: Write>(out: &mut W, state: &mut [u8], outgoing: &[u8]) -> Result<()> 
 // The mark of server k as it judges it.
 fn own_mark<W: Write>(out: &mut W, state: &mut [u8], outgoing: &[u8], k: u8) -> Result<()> {
     put(state, State::AT_ME, k);
-    if state_number(state, outgoing) == 0 {
+    if check_buffers(state, outgoing).is_ok() {
         let m = taken_votes(state).mark;
         write!(out, " {k}:{} {} {}", m.status, m.index.0, m.attempt.0)?;
         write!(out, " {} {};", m.set, m.bits)?;
@@ -129,9 +129,8 @@ fn marks<W: Write>(out: &mut W, state: &mut [u8], outgoing: &[u8]) -> Result<()>
 }
 
 fn decide<W: Write>(out: &mut W, state: &mut [u8], outgoing: &[u8]) -> Result<()> {
-    let refusal = state_number(state, outgoing);
-    if refusal != 0 {
-        return write!(out, "state check {refusal}");
+    if let Err(refusal) = check_buffers(state, outgoing) {
+        return write!(out, "state check {}", u32::from(refusal));
     }
     answers(out, state)?;
     plan(out, state, outgoing)?;

@@ -94,23 +94,23 @@ pub fn event<W: Write>(out: &mut W, c: Context, v: Event, e: &[u8]) -> Result<()
     requires { PlacedEvent c v e.now }
 {
     match v {
-            Event::Action(a) => action(out, c, a, e),
-            Event::Retransmission {
-                sender,
-                position,
-                action,
-            } => retransmission(out, c, sender, position, action, e),
-            Event::State(s) => state(out, c, s, e),
-            Event::Cpc {
-                sender,
-                configuration,
-            } => write!(out, "CPC {sender} {configuration}"),
-            Event::Regular { configuration, set } => write!(out, "regular {configuration} {set}"),
-            Event::Transitional { set } => write!(out, "transitional {set}"),
-            Event::Request {
-                payload_at,
-                payload_length,
-            } => request(out, e, payload_at, payload_length),
-            Event::Recovery => write!(out, "recovery"),
-        }
+        Event::Action(a) => action(out, c, a, e),
+        Event::Retransmission {
+            sender,
+            position,
+            action,
+        } => retransmission(out, c, sender, position, action, e),
+        Event::State(s) => state(out, c, s, e),
+        Event::Cpc {
+            sender,
+            configuration,
+        } => write!(out, "CPC {sender} {configuration}"),
+        Event::Regular { configuration, set } => write!(out, "regular {configuration} {set}"),
+        Event::Transitional { set } => write!(out, "transitional {set}"),
+        Event::Request {
+            payload_at,
+            payload_length,
+        } => request(out, e, payload_at, payload_length),
+        Event::Recovery => write!(out, "recovery"),
+    }
 }

@@ -7,8 +7,8 @@ ghost use Rattle.std.specs.Prelude.{◌≡◌, ◌<◌, length};
 
 use crate::patch::patches;
 use image::start;
-use refusals::SHORT_BUFFER;
-use state_check::state_number;
+use refusals::{Refusal, outcome_number};
+use state_check::check_buffers;
 use std::io::{Result, Write};
 use vector_tools::patch::patch;
 
@@ -19,7 +19,7 @@ fn begin(base: &mut [u8], e: &[u8]) {
     base.fill(0);
     if let [servers, high, low, me, ..] = e {
         let quota = u16::from_be_bytes([*high, *low]);
-        start(base, u32::from(*servers), u32::from(quota), u32::from(*me));
+        let _ = start(base, u32::from(*servers), u32::from(quota), u32::from(*me));
     }
 }
 
@@ -38,7 +38,8 @@ fn answer<W: Write>(out: &mut W, base: &[u8], length: usize, room: usize, e: &[u
     patches(&mut state, e);
     let outgoing: [u8; ROOM] = [0; ROOM];
     if length <= ROOM && room <= ROOM {
-        write!(out, "{}", state_number(&state[..length], &outgoing[..room]))
+        let outcome = check_buffers(&state[..length], &outgoing[..room]);
+        write!(out, "{}", outcome_number(outcome))
     } else {
         write!(out, "9")
     }
@@ -53,26 +54,26 @@ struct Tally {
 }
 
 impl Tally {
-    fn count(&mut self, number: u32) {
-        let one = match number {
-            0 => &mut self.read,
-            SHORT_BUFFER => &mut self.short,
-            _ => &mut self.unread,
+    fn count(&mut self, outcome: std::result::Result<(), Refusal>) {
+        let one = match outcome {
+            Ok(()) => &mut self.read,
+            Err(Refusal::ShortBuffer) => &mut self.short,
+            Err(_) => &mut self.unread,
         };
         *one = one.wrapping_add(1);
     }
 }
 
 // One byte changed, and back.
-fn damaged(state: &mut [u8], at: usize, by: u8, outgoing: &[u8]) -> u32
+fn damaged(state: &mut [u8], at: usize, by: u8, outgoing: &[u8]) -> std::result::Result<(), Refusal>
     requires { at < length state.old }
     ensures { length state.new ≡ length state.old }
 {
     let old = state[at];
     state[at] = old.wrapping_add(by);
-    let number = state_number(state, outgoing);
+    let outcome = check_buffers(state, outgoing);
     state[at] = old;
-    number
+    outcome
 }
 
 // Each byte changed in three ways.

@@ -2,14 +2,13 @@
 ghost use Rattle.reader.specs.Reading.{PlacedEvent, PlacedAction, PlacedRetransmission, PlacedState};
 
 use crate::reading;
-use reader::Reading;
 use record::Context;
 use record::events::{ActionAt, Event, StateAt};
 use std::io::{Result, Write};
 use vector_tools::output::Bytes;
-use writer::records::{Written, write_action, write_cpc, write_retransmission, write_state};
+use writer::records::{write_action, write_cpc, write_retransmission, write_state};
 
-fn action(c: Context, a: ActionAt, e: &[u8], room: &mut [u8]) -> Written
+fn action(c: Context, a: ActionAt, e: &[u8], room: &mut [u8]) -> Option<usize>
     requires { PlacedAction c a e.now }
 {
     write_action(
@@ -26,21 +25,21 @@ fn retransmission(
     a: ActionAt,
     e: &[u8],
     room: &mut [u8],
-) -> Written
+) -> Option<usize>
     requires { PlacedRetransmission c sender position a e.now }
 {
     let payload = &e[a.payload_at..a.payload_at + a.payload_length];
     write_retransmission(room, sender, position, a.head, payload)
 }
 
-fn state(c: Context, s: StateAt, e: &[u8], room: &mut [u8]) -> Written
+fn state(c: Context, s: StateAt, e: &[u8], room: &mut [u8]) -> Option<usize>
     requires { PlacedState c s e.now }
 {
     write_state(room, s.head, &e[s.cuts_at..], &e[s.yellow_at..])
 }
 
 // Writes the event at the front of the room; an event of a kind that the engine does not send is not written.
-fn again(c: Context, v: Event, e: &[u8], room: &mut [u8]) -> Written
+fn again(c: Context, v: Event, e: &[u8], room: &mut [u8]) -> Option<usize>
     requires { PlacedEvent c v e.now }
 {
     match v {
@@ -55,14 +54,14 @@ fn again(c: Context, v: Event, e: &[u8], room: &mut [u8]) -> Written
             sender,
             configuration,
         } => write_cpc(room, sender, configuration),
-        _ => Written::Full,
+        _ => None,
     }
 }
 
 pub fn say<W: Write>(out: &mut W, c: Context, e: &[u8]) -> Result<()> {
     match reader::read(c, e) {
-        Reading::Good(v) => reading::event(out, c, v, e),
-        Reading::Refused(number) => write!(out, "refused {number}"),
+        Ok(v) => reading::event(out, c, v, e),
+        Err(refusal) => write!(out, "refused {}", u32::from(refusal)),
     }
 }
 
@@ -72,7 +71,7 @@ fn fill<W: Write>(out: &mut W, c: Context, v: Event, e: &[u8], room: &mut [u8]) 
 {
     let mut at = 0;
     for _k in 0..3 {
-        let Written::Next(size) = again(c, v, e, &mut room[at..]) else {
+        let Some(size) = again(c, v, e, &mut room[at..]) else {
             return write!(out, " full");
         };
         if room.len() - at < size {
@@ -103,7 +102,7 @@ fn sized<W: Write>(out: &mut W, c: Context, v: Event, e: &[u8], size: usize) -> 
 // The same for each of the four sizes.
 pub fn write<W: Write>(out: &mut W, c: Context, e: &[u8]) -> Result<()> {
     let n = e.len();
-    if let Reading::Good(v) = reader::read(c, e)
+    if let Ok(v) = reader::read(c, e)
         && 1 <= n
         && n <= 8192
     {

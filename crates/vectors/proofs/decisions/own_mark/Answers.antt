@@ -1,5 +1,6 @@
-use Rattle.vectors.proofs.Checked.{zero_holds}
+use Rattle.vectors.proofs.Checked.{accepted_holds}
+use Rattle.std.proofs.Common.{rules}
 use Rattle.vectors.proofs.decisions.own_mark.Goals as goal
 
 pub taken_votes-requires : goal.taken_votes-requires
-taken_votes-requires g c = zero_holds _ _ _ c.state_number.ensures c.if-state_number-eq0.true
+taken_votes-requires g c = search (rules, accepted_holds)
