@@ -35,7 +35,7 @@ pub extern "C" fn guzbytor_lengths(servers: u32, quota: u32) -> Lengths
 pub extern "C" fn guzbytor_start(state: &mut [u8], servers: u32, quota: u32, me: u32) -> u32
     ensures { started result state.new ≡ start_on servers quota me state.old }
 {
-    image::start(state, servers, quota, me)
+    outcome_number(image::start(state, servers, quota, me))
 }
 
 #[unsafe(no_mangle)]
