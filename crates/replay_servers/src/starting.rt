@@ -10,7 +10,7 @@ fn fresh(servers: u8, quota: u16, me: u32) -> Server
     ensures { result ≡ fresh_of servers quota me }
 {
     let mut state: [u8; STATE_ROOM] = [0; STATE_ROOM];
-    let _refusal_leaves_zeros = start(&mut state, u32::from(servers), u32::from(quota), me);
+    let _ = start(&mut state, u32::from(servers), u32::from(quota), me);
     Server {
         state,
         store: state,
