@@ -107,11 +107,11 @@ regular_not k x y z w No c e = absurd (z e)
 regular_not k x y z w Un c e = absurd (y e)
 
 -- Whether there is one, and its number.
-there : Maybe Code → ℕ
+abbrev there : Maybe Code → ℕ
 there None = 0
 there (Some k) = 1
 
-code_in : Maybe Code → ℕ
+abbrev code_in : Maybe Code → ℕ
 code_in None = 8
 code_in (Some k) = mode_code k
 

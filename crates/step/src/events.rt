@@ -21,8 +21,8 @@ use crate::joining::{join, join_unmarked, join_yellow};
 use crate::requests::request;
 use crate::sieve::{pass, pass_at};
 use guards::{
-    after_transitional, cpc_in, is_member, is_of, numbered_own, quota_left, regular_due,
-    state_in, transitional_due,
+    after_transitional, cpc_in, is_member, is_of, numbered_own, quota_left, regular_due, state_in,
+    transitional_due,
 };
 use queue::counting::count_of;
 use queue::entering::red;
