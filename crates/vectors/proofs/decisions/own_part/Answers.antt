@@ -2,5 +2,5 @@ use Rattle.vectors.proofs.Checked.{accepted_holds}
 use Rattle.std.proofs.Common.{rules}
 use Rattle.vectors.proofs.decisions.own_part.Goals as goal
 
-pub part-p-requires : goal.part-p-requires
-part-p-requires g c = search (rules, accepted_holds)
+pub part-requires : goal.part-requires
+part-requires g c = search (rules, accepted_holds)
