@@ -100,6 +100,7 @@ fn send_creator(
 {
     let mut sent = 0;
     let mut i = low;
+    // Stays: it does not count, each turn goes on from the index of the creator's next action (`next_red`), and a `for` says that no plainer.
     while i < high {
         let Some(red) = next_red(state, places, creator, i, high) else {
             break;
