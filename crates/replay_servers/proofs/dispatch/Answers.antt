@@ -5,7 +5,7 @@ use Rattle.replay_servers.proofs.dispatch.Goals as goal
 
 pub returns-then-k-t : goal.returns-then-k-t
 unfolding altered replied
-returns-then-k-t c = let h = c.take.ensures in grind (arith, common_steps)
+returns-then-k-t c = let h = c.alter.ensures in grind (arith, common_steps)
 
 pub returns-else-k-t : goal.returns-else-k-t
 unfolding altered replied
