@@ -10,10 +10,10 @@ ghost use Rattle.register_step.specs.Claim.{JointBurstsFollow, JointBurstsAgree}
 
 pub mod carrying; // carrying.rt: green actions applied to the register
 
-use refusals::Refusal;
 use burst::slices::next_in;
 use carrying::{carry, carry_met};
 use queue::history::green_length;
+use refusals::Refusal;
 use register_check::checking::register_reads;
 use register_check::layout::REGISTER_LENGTH;
 use state_check::check_buffers;

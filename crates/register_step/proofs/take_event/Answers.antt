@@ -37,5 +37,5 @@ pub shape_of-out : goal.shape_of-out
 shape_of-out c = search (rules, c.act)
 
 pub returns-clause-joint : goal.returns-clause-joint
-returns-clause-joint c = 
+returns-clause-joint c =
     event_done _ _ _ c.requires _ _ _ _ c.carry_met-first.ensures _ _ _ _ c.in_ok-a.ensures _ c.green_length-from.ensures.value.0 _ _ (c.carry-rest.ensures.register_after, c.carry-rest.ensures.carries_on) _ _ (search rules) refl c.raise.ensures
