@@ -12,7 +12,7 @@ mod input; // input.rt: what is there of the input
 use arrayvec::ArrayString;
 use input::{INPUT_ROOM, Input};
 use octets::blocks::copy;
-use replay_lines::line::{header, push_refusal};
+use replay_lines::line::{header, push_setup_line};
 use replay_lines::setup::Setup;
 use replay_turns::{Going, Replay};
 use std::io::{Read, Stdin};
@@ -133,7 +133,7 @@ fn main(rt: HostRuntime) {
         }
         Err(refusal) => {
             let mut line = ArrayString::<HEAD_ROOM>::new();
-            push_refusal(&mut line, "setup", refusal);
+            push_setup_line(&mut line, refusal);
             io::write_all(1, line.as_str().as_bytes());
         }
     }
