@@ -1,4 +1,6 @@
 """The run of a story as definitions (PartitionRun.antt and its like in crates/examples/proofs), and the audit of a recorded run (docs/AUDIT.md)."""
+import re
+
 from .witness import Witness
 
 
@@ -58,13 +60,14 @@ def run_file(story, source):
     if w.circle:
         raise SystemExit('the order has a circle')
     rows = '\n    ∷ '.join([row(e) for e in story.entries] + ['[]'])
+    ends = ''.join(', ' + end for end in ('cut', 'down') if re.search(r'\b%s\b' % end, rows))
     size = '%d events at %d servers with the quota %d' % (len(story.events()), story.servers, story.quota)
     return f'''-- A run of {size}, written by scripts/generate.py from {source}.
 {summary(story)}use Prim.Native.Nat.{{ℕ}}
 use mathlib.Core.List.{{List, [], ◌∷◌}}
 use Rattle.replication.specs.Audit.Witness.{{Witness}}
 use Rattle.examples.proofs.Records.{{sent}}
-use Rattle.examples.proofs.Rows.{{Row, row, cut, down}}
+use Rattle.examples.proofs.Rows.{{Row, row{ends}}}
 
 abbrev pub servers : ℕ
 servers = {story.servers}
