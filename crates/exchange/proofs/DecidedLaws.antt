@@ -4,7 +4,6 @@ use mathlib.Core.Path.{◌≡◌, refl, sym, ap, ap₂, subst, ◌∙◌}
 use mathlib.Core.Bool.{Bool, true, false}
 use mathlib.Core.List.{List}
 use mathlib.Core.Option.{Option as MaybeConfiguration, none, some}
-use Rattle.std.specs.Prelude.{Option, Some, None}
 use Rattle.base.proofs.TestLaws.{pick_yes, pick_no}
 use native.Mathlib.Omega.{arith}
 use lib.ListN.{length}
@@ -28,7 +27,8 @@ use Rattle.image.proofs.HeaderLaws.{header_loaded}
 use Rattle.image.specs.Holding.{Holds, HoldsSuch, Computes}
 use Rattle.image.proofs.InRange.{in_range}
 use Rattle.exchange.specs.declared.slots.Slots.{Slots}
-use Rattle.exchange.specs.declared.plan.Part.{Part}
+use Rattle.exchange.specs.declared.plan.Share.{Share}
+use Rattle.exchange.specs.declared.plan.Share.TheVariants.{Own, Others}
 use Rattle.exchange.specs.declared.decided.TakenVotes.{TakenVotes}
 use Rattle.exchange.specs.Slots.{Space, Room, slots_of, slots_in, states_of}
 use Rattle.exchange.specs.Table.{Listed, ListsFit}
@@ -128,9 +128,9 @@ module _ (b c : List ℕ) (v : Slots) (held : Computes slots_in b v) (same : c �
   quorum_told here r e g s h =
       g ∙ ap₂ {A = List State} {B = ℕ} {C = Bool} (λ xs m. quorum xs m) (states_held s h) (e ∙ here_read s b h)
 
-  pub part_told : (g : State → ℕ) (me : ℕ) (r : Option Part) → me ≡ number_at 1 b at_me → r ≡ part_of g me (states_of v c)
+  pub part_told : (g : State → ℕ) (me : ℕ) (r : Share) → me ≡ number_at 1 b at_me → r ≡ part_of g me (states_of v c)
       → Computes (λ s. part_of g s.me (collected s)) b r
-  part_told g me r e i s h = i ∙ ap₂ {A = ℕ} {B = List State} {C = Option Part} (λ m xs. part_of g m xs) (e ∙ own_read s b h) (states_held s h)
+  part_told g me r e i s h = i ∙ ap₂ {A = ℕ} {B = List State} {C = Share} (λ m xs. part_of g m xs) (e ∙ own_read s b h) (states_held s h)
 
   pub votes_told : (me a y : ℕ) (p : LastPrimary) (m : Mark) → me ≡ number_at 1 b at_me → primary_of p ≡ taken_primary (states_of v c)
       → mark_of m ≡ own_mark me (states_of v c) (states_of v c) → a ≡ taken_attempt (states_of v c) → y ≡ (taken_yellow (states_of v c)).status
@@ -157,13 +157,12 @@ pub own_held : (v w : Slots) (c d : List ℕ) (me : ℕ) (m : Mark) → w ≡ v 
     → mark_of m ≡ own_mark me (states_of v c) (states_of v c)
 own_held v w c d me m e f h = h ∙ (λ i. own_mark me (states_of (e i) (f i)) (states_of (e i) (f i)))
 
-pub part_made : (g : State → ℕ) (me : ℕ) (xs : List State) (t : Bool) (low high : ℕ) → t ≡ is_me me (resender g xs) → t ≡ true → low ≡ lowest g xs
-    → high ≡ highest g xs
-    → ◌≡◌ {A = Option Part} (Some (record { low = low; high = high })) (part_of g me xs)
-unfolding part_of
-part_made g me xs t low high e y f h = pick_yes _ _ _ _ (sym e ∙ y) (λ i. Some (record { low = f i; high = h i }))
+module _ (g : State → ℕ) (me : ℕ) (xs : List State) (t : Bool) (low high : ℕ) (e : t ≡ is_me me (resender g xs)) (f : low ≡ lowest g xs)
+    (h : high ≡ highest g xs) where
+  pub part_own : t ≡ true → ◌≡◌ {A = Share} (Own (record { low = low; high = high })) (part_of g me xs)
+  unfolding part_of
+  part_own y = pick_yes _ _ _ _ (sym e ∙ y) (λ i. Own (record { low = f i; high = h i }))
 
-pub part_none : (g : State → ℕ) (me : ℕ) (xs : List State) (t : Bool) → t ≡ is_me me (resender g xs) → t ≡ false
-    → ◌≡◌ {A = Option Part} None (part_of g me xs)
-unfolding part_of
-part_none g me xs t e n = pick_no _ _ _ _ (sym e ∙ n) refl
+  pub part_others : t ≡ false → ◌≡◌ {A = Share} (Others (record { low = low; high = high })) (part_of g me xs)
+  unfolding part_of
+  part_others n = pick_no _ _ _ _ (sym e ∙ n) (λ i. Others (record { low = f i; high = h i }))

@@ -1,6 +1,6 @@
 -- The set of the slots whose State passes a test, made slot by slot.
 use Prim.Native.Nat.{ℕ, zero, suc, ◌+◌, ◌≤◌, ◌<◌}
-use mathlib.Core.Path.{◌≡◌, refl, sym, ap, ap₂, ◌∙◌}
+use mathlib.Core.Path.{◌≡◌, refl, sym, ap, ap₂, subst, ◌∙◌}
 use mathlib.Core.Bool.{Bool, true, false}
 use mathlib.Core.List.{List, ◌∷◌}
 use native.Mathlib.Omega.{arith}
@@ -12,7 +12,7 @@ use Rattle.base.specs.Sets.{in_set, with_member}
 use Rattle.base.proofs.SetLaws.{in_empty, member_other, member_same}
 use Rattle.format.specs.Types.{State}
 use Rattle.exchange.specs.declared.slots.Slots.{Slots}
-use Rattle.exchange.specs.Slots.{with_here, slot_at, state_in, states_from, states_of}
+use Rattle.exchange.specs.Slots.{Space, Room, with_here, slot_at, state_in, states_from, states_of}
 use Rattle.exchange.specs.Folds.{Those}
 
 -- ---- the set made
@@ -94,3 +94,20 @@ module _ (t : State → Bool) (v : Slots) (b : List ℕ) where
   pub passing_yes : (k set r : ℕ) → in_set k v.here ≡ true → true ≡ t (state_in v b k) → r ≡ with_member k set → set ≡ passing_to t v b k
       → r ≡ passing_to t v b (k + 1)
   passing_yes k set r m e j i = passing_again k set r (pick_yes _ _ _ _ (sym (and_yes true _ _ m e)) j) i
+
+-- ---- some of the slots have room where all have it
+
+some_room : (v : Slots) (g : ℕ) (b : List ℕ) → ((k : ℕ) → k < v.servers → in_set k g ≡ true → in_set k v.here ≡ true) → Room v b → Room (with_here g v) b
+unfolding with_here state_in slot_at
+some_room v g b a r =
+    record {
+      space = record { servers = r.space.servers; long = r.space.long; inside = r.space.inside };
+      senders = λ k l m. r.senders k l (a k l m);
+    }
+
+pub among_room : (v w : Slots) (b c : List ℕ) → w ≡ with_here w.here v → c ≡ b
+    → ((k : ℕ) → k < v.servers → in_set k w.here ≡ true → in_set k v.here ≡ true) → Room v b → Room w c
+among_room v w b c e f a r = subst (λ (y : Slots). Room y c) (sym e) (subst (Room (with_here w.here v)) (sym f) (some_room v w.here b a r))
+
+pub passing_room : (t : State → Bool) (v w : Slots) (b c : List ℕ) → Those t v b w c → Room v b → Room w c
+passing_room t v w b c p r = among_room v w b c p.slots p.bytes p.among r

@@ -13,9 +13,10 @@ use Rattle.record.specs.declared.events.StateHead.{StateHead}
 use Rattle.replication.specs.Machine.Types.{no_yellow}
 use Rattle.replication.specs.Machine.Exchange.{taken_primary, same_pair, updated_group, is_valid, common_yellow, taken_yellow}
 use Rattle.exchange.specs.declared.slots.Slots.{Slots}
-use Rattle.exchange.specs.Slots.{with_here, state_in, states_of, states_left, head_of}
+use Rattle.exchange.specs.Slots.{Room, with_here, state_in, states_of, states_left, head_of}
 use Rattle.exchange.specs.Folds.{FirstAt, Those}
 use Rattle.exchange.specs.Passing.{Voters}
+use Rattle.exchange.proofs.PassingLaws.{among_room}
 use Rattle.exchange.proofs.ReadLaws.{state_stands}
 
 pub valid_told : (v : Slots) (b : List ℕ) (k : ℕ) (x : StateHead) → x ≡ head_of v b k → eqb x.yellow_status 1 ≡ is_valid (state_in v b k)
@@ -40,6 +41,9 @@ voters_made v w y b c d p e g h =
       states = h.states ∙ ap (filter is_valid) (g.states ∙ ap (λ (q : Primary). filter (same_pair q) (states_of v b)) e);
       among = λ k l m. g.among k l (h.among k (rw (same_servers v w g.slots) l) m);
     }
+
+pub voters_room : (v w : Slots) (b c : List ℕ) → Voters v b w c → Room v b → Room w c
+voters_room v w b c g r = among_room v w b c g.slots g.bytes g.among r
 
 module _ (v w : Slots) (b c : List ℕ) (g : Voters v b w c) where
   pub voters_none : states_of w c ≡ [] → taken_yellow (states_of v b) ≡ no_yellow

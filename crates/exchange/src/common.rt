@@ -49,7 +49,7 @@ impl<'a> FirstList<'a> {
     }
 
     // Writes the ids whose places tell `round`: how many there are.
-    fn keep(&self, round: u8, table: &[u8; State::MOST_IDS], out: &mut [u8]) -> usize
+    pub fn keep(&self, round: u8, table: &[u8; State::MOST_IDS], out: &mut [u8]) -> usize
         requires { id_size * self.now.count ≤ length out.old }
         ensures { Listed result out.new (kept_of self.now.count round self.now.bytes.now table.now) }
     {

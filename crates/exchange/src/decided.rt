@@ -14,7 +14,7 @@ ghost use Rattle.exchange.specs.Plan.{part_of};
 
 use crate::common::taken_ids;
 use crate::judging::Judging;
-use crate::plan::Part;
+use crate::plan::Share;
 use crate::states::States;
 use image::header::load;
 use octets::numbers::num8;
@@ -70,8 +70,8 @@ pub fn planned_now(state: &[u8]) -> u64
     held(state).planned()
 }
 
-// "the server with the longest green list resends positions from the shortest length + 1 to its own": what this one resends, if it does.
-pub fn resends_green(state: &[u8]) -> Option<Part>
+// "the server with the longest green list resends positions from the shortest length + 1 to its own": whether this one does, and which.
+pub fn resends_green(state: &[u8]) -> Share
     requires { HoldsSome state.now }
     ensures { Computes (λ s. part_of green_in s.me (collected s)) state.now result }
 {
@@ -81,7 +81,7 @@ pub fn resends_green(state: &[u8]) -> Option<Part>
 }
 
 // "for each creator the server with the highest cut resends from the lowest cut + 1 to it"
-pub fn resends_red(state: &[u8], c: usize) -> Option<Part>
+pub fn resends_red(state: &[u8], c: usize) -> Share
     requires { HoldsSuch (λ s. c < s.servers) state.now }
     ensures { Computes (λ s. part_of (cut_in c) s.me (collected s)) state.now result }
 {

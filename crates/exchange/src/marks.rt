@@ -98,7 +98,7 @@ impl<'a> Judging<'a> {
     }
 
     // The mark of the slot k after judging.
-    fn judged(&self, k: usize) -> Mark
+    pub fn judged(&self, k: usize) -> Mark
         requires { IsSlot self.now.states k }
         ensures { mark_of result ≡ judged_mark (sent self.now.states) (sent_by self.now.states k) }
     {

@@ -8,11 +8,18 @@ ghost use Rattle.exchange.specs.Plan.{part_of};
 
 use crate::states::States;
 
-// What a server resends: those above `low` up to `high`.
+// What is resent: those above `low` up to `high`.
 #[derive(Clone, Copy, Debug, PartialEq, Eq)]
 pub struct Part {
     pub low: u32,
     pub high: u32,
+}
+
+// Whose part of the plan it is: the server's own, or another's.
+#[derive(Clone, Copy, Debug, PartialEq, Eq)]
+pub enum Share {
+    Own(Part),
+    Others(Part),
 }
 
 // By a number of the State in each slot: the green length, the attempt, or the cut of one creator.
@@ -68,7 +75,7 @@ impl<'a> States<'a> {
     }
 
     // Whether the server `me` is the one that resends: "Lowest number wins ties."
-    fn resends<F: Fn(usize) -> u32 + Copy>(&self, number: F, me: usize) -> bool
+    pub fn resends<F: Fn(usize) -> u32 + Copy>(&self, number: F, me: usize) -> bool
         requires { AtEach self.now (F.pre number) }
         ensures { (n : State → ℕ) → Tells self.now (F.post number) n → result ≡ is_me me (resender n (sent self.now)) }
     {
@@ -83,17 +90,19 @@ impl<'a> States<'a> {
         }
     }
 
-    // The part of the server `me`, if it is the one that resends.
-    pub fn part<F: Fn(usize) -> u32 + Copy>(&self, number: F, me: usize) -> Option<Part>
+    // The part, and whether the server `me` is the one that resends it.
+    pub fn part<F: Fn(usize) -> u32 + Copy>(&self, number: F, me: usize) -> Share
         requires { AtEach self.now (F.pre number) }
         ensures { (n : State → ℕ) → Tells self.now (F.post number) n → result ≡ part_of n me (sent self.now) }
     {
-        if !self.resends(number, me) {
-            return None;
-        }
-        Some(Part {
+        let part = Part {
             low: self.lowest(number),
             high: self.highest(number),
-        })
+        };
+        if self.resends(number, me) {
+            Share::Own(part)
+        } else {
+            Share::Others(part)
+        }
     }
 }

@@ -33,7 +33,8 @@ use Rattle.queue.proofs.ReadLaws.{holds_queue, queue_read}
 use Rattle.outgoing.specs.Lent.{LentSuch}
 use Rattle.exchange.specs.Plan.{part_of}
 use Rattle.exchange.specs.declared.plan.Part.{Part}
-use Rattle.std.specs.Prelude.{Option as Maybe, Some, None}
+use Rattle.exchange.specs.declared.plan.Share.{Share}
+use Rattle.exchange.specs.declared.plan.Share.TheVariants.{Own, Others}
 use Rattle.outgoing.specs.Resending.{queue_in, at_position, as_red, greens_of, reds_of, Sends, Stated, PositionsIn, green_part}
 use Rattle.outgoing.specs.Resending.{red_part, red_parts, whole_part}
 use Rattle.outgoing.proofs.GatherLaws.{without_first, without_last}
@@ -87,43 +88,39 @@ module _ (b : List ℕ) (s : Stated b) (me low high : ℕ) where
   positions_held =
       sym (without_first (at_position me b) low first high (omega arith) white_none ∙ without_last (at_position me b) first last high (omega arith) past_none)
 
--- What is sent of a part, if there is one.
-abbrev sent_of : (Part → List Record) → Maybe Part → List Record
-sent_of f None = []
-sent_of f (Some p) = f p
+-- What is sent of a part: nothing of another's.
+abbrev sent_of : (Part → List Record) → Share → List Record
+sent_of f (Own p) = f p
+sent_of f (Others p) = []
 
-sent_by : (f : Part → List Record) (t : Bool) (p : Part) → sent_of f (pick t (Some p) None) ≡ pick t (f p) []
+sent_by : (f : Part → List Record) (t : Bool) (p : Part) → sent_of f (pick t (Own p) (Others p)) ≡ pick t (f p) []
 unfolding pick
 sent_by f true p = refl
 sent_by f false p = refl
 
-abbrev high_of : Maybe Part → ℕ
-high_of None = 0
-high_of (Some p) = p.high
+abbrev high_of : Share → ℕ
+high_of (Own p) = p.high
+high_of (Others p) = p.high
 
-abbrev there : Maybe Part → ℕ
-there None = 0
-there (Some p) = 1
-
-high_is : (t : Bool) (p q : Part) → pick t (Some p) None ≡ Some q → q.high ≡ p.high
+high_is : (t : Bool) (p q : Part) → pick t (Own p) (Others p) ≡ Own q → q.high ≡ p.high
 unfolding pick
 high_is true p q e = sym (ap high_of e)
-high_is false p q e = absurd (omega (arith, ap there e))
+high_is false p q e = sym (ap high_of e)
 
-module _ (b : List ℕ) (x : Maybe Part) (s : Stated b) (e : (t : Server) → Holds t b → x ≡ part_of green_in t.me (collected t)) where
+module _ (b : List ℕ) (x : Share) (s : Stated b) (e : (t : Server) → Holds t b → x ≡ part_of green_in t.me (collected t)) where
   greens : x ≡ part_of green_in (decoded b).me (collected (decoded b))
   greens = e (decoded b) s.holds
 
   green_is : (me : ℕ) → me ≡ number_at 1 b at_me → sent_of (λ p. greens_of me p.low p.high b) x ≡ green_part b
   unfolding green_part resend_green missing part_of at_position decoded decoded_as
   green_is me m =
-      ap₂ {A = ℕ} {B = Maybe Part} {C = List Record} (λ k y. sent_of (λ p. greens_of k p.low p.high b) y) m greens ∙ sent_by _ _ _
+      ap₂ {A = ℕ} {B = Share} {C = List Record} (λ k y. sent_of (λ p. greens_of k p.low p.high b) y) m greens ∙ sent_by _ _ _
 
-  pub green_none : (me : ℕ) (o : List ℕ) → me ≡ number_at 1 b at_me → x ≡ None → Sends (length (green_part b)) (green_part b) o o 0
-  green_none me o m t =
-      none_sent_at (green_part b) (sym (green_is me m) ∙ ap (sent_of (λ p. greens_of me p.low p.high b)) t) o
+  pub green_none : (me : ℕ) (p : Part) (o : List ℕ) → me ≡ number_at 1 b at_me → x ≡ Others p → Sends (length (green_part b)) (green_part b) o o 0
+  green_none me p o m t =
+      none_sent_at (green_part b) (sym (green_is me m) ∙ ap (sent_of (λ q. greens_of me q.low q.high b)) t) o
 
-  module _ (me white green l h : ℕ) (p : Part) (m : me ≡ number_at 1 b at_me) (t : x ≡ Some p) (w : white ≡ white_in b) (n : green ≡ length (greens_in b))
+  module _ (me white green l h : ℕ) (p : Part) (m : me ≡ number_at 1 b at_me) (t : x ≡ Own p) (w : white ≡ white_in b) (n : green ≡ length (greens_in b))
       (f : l ≡ max p.low white) (g : h ≡ min p.high green) where
     green_whole : greens_of me l h b ≡ green_part b
     green_whole =
@@ -146,14 +143,14 @@ pub stated_creator : (b : List ℕ) (c : ℕ) → Stated b → c < servers_in b 
 unfolding decoded decoded_as servers_in quota_in
 stated_creator b c s h = record { state = decoded b; holds = s.holds; fact = h }
 
-module _ (b : List ℕ) (c : ℕ) (x : Maybe Part) (e : (t : Server) → Holds t b → x ≡ part_of (cut_in c) t.me (collected t)) (s : Stated b) where
+module _ (b : List ℕ) (c : ℕ) (x : Share) (e : (t : Server) → Holds t b → x ≡ part_of (cut_in c) t.me (collected t)) (s : Stated b) where
   reds : x ≡ part_of (cut_in c) (decoded b).me (collected (decoded b))
   reds = e (decoded b) s.holds
 
   facts : Body (decoded b).white (decoded b)
   facts = body (decoded b) (well_formed_facts (decoded b) s.holds.formed)
 
-  pub red_high : (p : Part) → x ≡ Some p → p.high ≤ most_number_limit
+  pub red_high : (p : Part) → x ≡ Own p → p.high ≤ most_number_limit
   unfolding part_of
   red_high p t =
       let same : p.high ≡ highest (cut_in c) (collected (decoded b)) = high_is _ _ p (sym reds ∙ t) in
@@ -168,11 +165,11 @@ module _ (b : List ℕ) (c : ℕ) (x : Maybe Part) (e : (t : Server) → Holds t
   red_is me m =
       (λ i. sent_of (λ p. gather (as_red (m i) (sym held i) c) (above p.low p.high)) (reds i)) ∙ sent_by _ _ _
 
-  pub red_none : (me : ℕ) (o : List ℕ) → me ≡ number_at 1 b at_me → x ≡ None → Sends (length (red_part b c)) (red_part b c) o o 0
-  red_none me o m t =
-      none_sent_at (red_part b c) (sym (red_is me m) ∙ ap (sent_of (λ p. reds_of me c p.low p.high b)) t) o
+  pub red_none : (me : ℕ) (p : Part) (o : List ℕ) → me ≡ number_at 1 b at_me → x ≡ Others p → Sends (length (red_part b c)) (red_part b c) o o 0
+  red_none me p o m t =
+      none_sent_at (red_part b c) (sym (red_is me m) ∙ ap (sent_of (λ q. reds_of me c q.low q.high b)) t) o
 
-  module _ (me : ℕ) (p : Part) (m : me ≡ number_at 1 b at_me) (t : x ≡ Some p) where
+  module _ (me : ℕ) (p : Part) (m : me ≡ number_at 1 b at_me) (t : x ≡ Own p) where
     red_whole : reds_of me c p.low p.high b ≡ red_part b c
     red_whole = sym (ap (sent_of (λ p. reds_of me c p.low p.high b)) t) ∙ red_is me m
 

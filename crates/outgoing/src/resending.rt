@@ -13,6 +13,7 @@ ghost use Rattle.image.specs.Counts.{queue_count};
 
 use crate::payload;
 use exchange::decided::{resends_green, resends_red};
+use exchange::plan::Share;
 use image::places::{Section, place_of};
 use install::table::{Lookup, index_at, table};
 use octets::numbers::num8;
@@ -117,7 +118,7 @@ fn send_green(state: &[u8], out: &mut [u8], me: u8) -> usize
     requires { Stated state.now × OwnNumber me state.now × RoomFor (green_part state.now) out.old }
     ensures { SendsAll (green_part state.now) out result }
 {
-    let Some(part) = resends_green(state) else {
+    let Share::Own(part) = resends_green(state) else {
         return 0;
     };
     let low = part.low.max(white_length(state));
@@ -130,7 +131,7 @@ fn send_red(state: &[u8], out: &mut [u8], places: &[u16; State::MOST_IDS], me: u
     requires { Resends places.now me state.now × (c < servers_in state.now) × RoomFor (red_part state.now c) out.old }
     ensures { SendsAll (red_part state.now c) out result }
 {
-    let Some(part) = resends_red(state, c as usize) else {
+    let Share::Own(part) = resends_red(state, c as usize) else {
         return 0;
     };
     send_creator(state, out, places, me, c, part.low, part.high)

@@ -9,7 +9,7 @@ use exchange::decided::{
     all_cpcs_in, all_states_in, planned_now, quorum_here, resends_green, resends_red, taken_votes,
     taken_yellow,
 };
-use exchange::plan::Part;
+use exchange::plan::Share;
 use octets::numbers::num8;
 use record::events::StateHead;
 use record::sets::has;
@@ -66,7 +66,7 @@ fn answers<W: Write>(out: &mut W, state: &[u8]) -> Result<()>
 }
 
 // Who resends of those that the server c made, or by position where there is no such server.
-fn part(state: &[u8], c: u8) -> Option<Part>
+fn part(state: &[u8], c: u8) -> Share
     requires { HoldsSome state.now }
 {
     if c < num8(state, State::AT_SERVERS) {
@@ -80,7 +80,7 @@ fn part(state: &[u8], c: u8) -> Option<Part>
 fn own_part<W: Write>(out: &mut W, state: &mut [u8], outgoing: &[u8], k: u8, c: u8) -> Result<()> {
     put(state, State::AT_ME, k);
     if check_buffers(state, outgoing).is_ok()
-        && let Some(p) = part(state, c)
+        && let Share::Own(p) = part(state, c)
     {
         write!(out, " {k}:{}-{}", p.low, p.high)?;
     }

@@ -32,7 +32,7 @@ pub fn linear_vote(p: LastPrimary, here: u8) -> bool
 }
 
 // Whether r has a higher (index, attempt) than p.
-fn later(p: LastPrimary, r: LastPrimary) -> bool
+pub fn later(p: LastPrimary, r: LastPrimary) -> bool
     ensures { result ≡ is_later (primary_of p) (primary_of r) }
 {
     p.index.0 < r.index.0 || p.index == r.index && p.attempt.0 < r.attempt.0

@@ -11,7 +11,7 @@ returns-in_default c = search (rules, red_none)
 pub send_creator-requires : goal.send_creator-requires
 send_creator-requires c =
     let e = c.resends_red.ensures in (
-      record { tabled = search rules; creator = search rules; most = red_high _ _ _ e (search rules) _ c.in-Some.is },
+      record { tabled = search rules; creator = search rules; most = red_high _ _ _ e (search rules) _ c.in-Own.is },
       search (rules, part_room _ _ _ e),
     )
 
