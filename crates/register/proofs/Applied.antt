@@ -76,15 +76,18 @@ module _ (b : List ℕ) (z : register_number b ≡ 0) (m : List ℕ) (i : ℕ) w
     pub set_there : (q : Place) → changed 9 b ≡ operated (set m q) b
     set_there q = refused_as (set m q) b 9 (number_there m q l there) (λ f. absurd (omega arith))
 
-    pub slots_in_lem : SlotsIn i (peg_count b) b
-    slots_in_lem =
-        record { place = (found b z m i e).inside; most = omega (arith, slots_count b, formed_most l held.formed); long = held.long }
+    pub slots_in_lem : (n : ℕ) → n ≡ peg_count b → SlotsIn i n b
+    slots_in_lem n c = record {
+      place = omega (arith, (found b z m i e).inside);
+      most = omega (arith, slots_count b, formed_most l held.formed);
+      long = held.long;
+    }
 
-    pub retire_taken : (c : List ℕ) → c ≡ removed i (peg_count b) b → changed 0 c ≡ operated (retire m) b
+    pub retire_taken : (n : ℕ) → n ≡ peg_count b → (d : List ℕ) → d ≡ removed i n b → changed 0 d ≡ operated (retire m) b
     unfolding done
-    retire_taken c f =
-        taken_as (retire m) b c (number_retired m l there)
-        (f ∙ (λ j. removed (at j) (sym (slots_count b) j) b)
+    retire_taken n c d f =
+        taken_as (retire m) b d (number_retired m l there)
+        (f ∙ (λ j. removed (at j) ((c ∙ sym (slots_count b)) j) b)
         ∙ remove_image b held (position m l) low
         ∙ ap (λ (k : ℕ). register_image (take (position m l) l ++ drop k l) b) (add-one (position m l))
         ∙ ap (λ (x : List Peg). register_image x b) (sym (remove_at m l (formed_sorted l held.formed) there)))
@@ -113,16 +116,16 @@ module _ (b : List ℕ) (z : register_number b ≡ 0) (m : List ℕ) (i : ℕ) w
       pub set_full : most_pegs ≤ n → changed 13 b ≡ operated (set m q) b
       set_full h = refused_as (set m q) b 13 (number_full m q l none_there (omega (arith, slots_count b))) (λ f. absurd (omega arith))
 
-      pub set_taken : n < most_pegs → length m ≤ most_name → (d : List ℕ) → d ≡ inserted i (peg_count b) m (place_bytes q) b → changed 0 d ≡ operated (set m q) b
+      pub set_taken : n < most_pegs → length m ≤ most_name → (d : List ℕ) → d ≡ inserted i n m (place_bytes q) b → changed 0 d ≡ operated (set m q) b
       unfolding done
       set_taken h k d f =
           let g : Peg = record { name = m; place = q } in
           let room : length l < most_pegs = omega (arith, slots_count b) in
           taken_as (set m q) b d (number_taken m q l none_there (le_no most_pegs (length l) room))
-          (f ∙ (λ j. inserted (belongs b z m i e j) (sym (slots_count b) j) m (place_bytes q) b)
+          (f ∙ (λ j. inserted (belongs b z m i e j) ((c ∙ sym (slots_count b)) j) m (place_bytes q) b)
           ∙ insert_image b held (position m l) g (position_most m l) room k
           ∙ ap (λ (x : List Peg). register_image x b) (sym (insert_at g l)))
 
-    pub set_room : (n : ℕ) → n ≡ peg_count b → n < most_pegs → RoomFor i (peg_count b) b
+    pub set_room : (n : ℕ) → n ≡ peg_count b → n < most_pegs → RoomFor i n b
     set_room n c h =
         record { place = omega (arith, belongs b z m i e, position_most m l, slots_count b); room = omega arith; long = held.long }

@@ -2,14 +2,14 @@
 ghost use Rattle.std.specs.Prelude.{◌≡◌, ◌+◌, ◌*◌, ◌≤◌, length};
 ghost use Rattle.base.specs.Patched.{patched};
 ghost use Rattle.pegs.specs.Operations.{most_name, place_size};
-ghost use Rattle.pegs.specs.Image.{peg_size, at_place, peg_count};
+ghost use Rattle.pegs.specs.Image.{peg_size, at_place};
 ghost use Rattle.register.specs.Changes.{named_bytes, place_bytes, slot_bytes, RoomFor, SlotsIn, widened, inserted, removed, replaced};
 ghost use Rattle.register.specs.Payloads.{placed};
 
 use crate::payload::Place;
 use octets::blocks::{clear, put_counted};
 use octets::moves::{shift_down, shift_up};
-use octets::numbers::{num16, put16, put32};
+use octets::numbers::{put16, put32};
 use register_check::layout::{
     AT_PLACE, AT_SLOT_NAME, COORDINATE_SIZE, COUNT_SIZE, MOST_NAME, PEG_SIZE,
 };
@@ -46,11 +46,10 @@ fn put_peg(register: &mut [u8], at: usize, name: &[u8], place: Place)
 }
 
 // The slots from `index` on move up by one, and the count rises.
-fn widen(register: &mut [u8], index: usize)
-    requires { RoomFor index (peg_count register.old) register.old }
-    ensures { register.new ≡ widened index (peg_count register.old) register.old }
+fn widen(register: &mut [u8], index: usize, count: u16)
+    requires { RoomFor index count register.old }
+    ensures { register.new ≡ widened index count register.old }
 {
-    let count = num16(register, 0);
     let at = COUNT_SIZE + PEG_SIZE * index;
     let end = COUNT_SIZE + PEG_SIZE * (usize::from(count) + 1);
     shift_up(&mut register[at..end], PEG_SIZE);
@@ -58,20 +57,19 @@ fn widen(register: &mut [u8], index: usize)
 }
 
 // A peg more, in front of the slot `index`.
-pub fn insert(register: &mut [u8], index: usize, name: &[u8], place: Place)
-    requires { RoomFor index (peg_count register.old) register.old × (length name.now ≤ most_name) }
-    ensures { register.new ≡ inserted index (peg_count register.old) name.now (place_bytes (placed place)) register.old }
+pub fn insert(register: &mut [u8], index: usize, count: u16, name: &[u8], place: Place)
+    requires { RoomFor index count register.old × (length name.now ≤ most_name) }
+    ensures { register.new ≡ inserted index count name.now (place_bytes (placed place)) register.old }
 {
-    widen(register, index);
+    widen(register, index, count);
     put_peg(register, COUNT_SIZE + PEG_SIZE * index, name, place);
 }
 
 // The slots behind `index` move down by one, over the one there, and the count falls.
-pub fn remove(register: &mut [u8], index: usize)
-    requires { SlotsIn index (peg_count register.old) register.old }
-    ensures { register.new ≡ removed index (peg_count register.old) register.old }
+pub fn remove(register: &mut [u8], index: usize, count: u16)
+    requires { SlotsIn index count register.old }
+    ensures { register.new ≡ removed index count register.old }
 {
-    let count = num16(register, 0);
     let at = COUNT_SIZE + PEG_SIZE * index;
     let end = COUNT_SIZE + PEG_SIZE * usize::from(count);
     shift_down(&mut register[at..end], PEG_SIZE);
@@ -79,8 +77,8 @@ pub fn remove(register: &mut [u8], index: usize)
 }
 
 // The peg in the slot `index` goes to this place.
-pub fn replace(register: &mut [u8], index: usize, place: Place)
-    requires { SlotsIn index (peg_count register.old) register.old }
+pub fn replace(register: &mut [u8], index: usize, count: u16, place: Place)
+    requires { SlotsIn index count register.old }
     ensures { register.new ≡ replaced index (place_bytes (placed place)) register.old }
 {
     put_place(register, COUNT_SIZE + PEG_SIZE * index + AT_PLACE, place);

@@ -36,7 +36,7 @@ fn set_peg(register: &mut [u8], name: &[u8], place: Place) -> Result<(), Registe
             if MOST_PEGS <= count {
                 return Err(RegisterRefusal::RegisterFull);
             }
-            insert(register, index, name, place);
+            insert(register, index, count as u16, name, place);
             Ok(())
         }
     }
@@ -47,9 +47,11 @@ fn move_peg(register: &mut [u8], name: &[u8], place: Place) -> Result<(), Regist
     requires { (register_number register.old ≡ 0) × (length name.now ≤ most_name) }
     ensures { changed (answer_number result) register.new ≡ operated (move_to name.now (placed place)) register.old }
 {
-    match Register::of(register).search(name) {
+    let held = Register::of(register);
+    let count = held.count() as u16;
+    match held.search(name) {
         Ok(index) => {
-            replace(register, index, place);
+            replace(register, index, count, place);
             Ok(())
         }
         Err(_) => Err(RegisterRefusal::PegNotThere),
@@ -60,9 +62,11 @@ fn retire_peg(register: &mut [u8], name: &[u8]) -> Result<(), RegisterRefusal>
     requires { register_number register.old ≡ 0 }
     ensures { changed (answer_number result) register.new ≡ operated (retire name.now) register.old }
 {
-    match Register::of(register).search(name) {
+    let held = Register::of(register);
+    let count = held.count() as u16;
+    match held.search(name) {
         Ok(index) => {
-            remove(register, index);
+            remove(register, index, count);
             Ok(())
         }
         Err(_) => Err(RegisterRefusal::PegNotThere),

@@ -6,9 +6,9 @@ ghost use Rattle.pegs.specs.Outcome.{register_number};
 ghost use Rattle.pegs.specs.Regions.{point_of};
 ghost use Rattle.register_check.specs.Slots.{slot_at};
 
-use super::coordinates::millimetres;
-use super::layout::{AT_PLACE, AT_SLOT_NAME, COORDINATE_SIZE, COUNT_SIZE, PEG_SIZE};
-use octets::numbers::{num8, num16, num32};
+use super::coordinates::point_at;
+use super::layout::{AT_SLOT_NAME, COUNT_SIZE, PEG_SIZE};
+use octets::numbers::{num8, num16};
 use plane::Point;
 
 #[derive(Clone, Copy)]
@@ -24,6 +24,13 @@ impl<'a> Register<'a> {
         ensures { result.bytes.now ≡ bytes.now }
     {
         Register { bytes }
+    }
+
+    // The bytes that hold it.
+    pub fn bytes(self) -> &'a [u8]
+        ensures { result.now ≡ self.entry.bytes.now }
+    {
+        self.bytes
     }
 
     pub fn count(self) -> usize
@@ -55,10 +62,6 @@ impl<'a> Register<'a> {
         requires { index < peg_count self.bytes.now }
         ensures { result ≡ point_of (peg_at self.entry.bytes.now (slot_at index)).place }
     {
-        let at = COUNT_SIZE + PEG_SIZE * index + AT_PLACE;
-        Point {
-            easting: millimetres(num32(self.bytes, at)),
-            northing: millimetres(num32(self.bytes, at + COORDINATE_SIZE)),
-        }
+        point_at(self.bytes, COUNT_SIZE + PEG_SIZE * index)
     }
 }

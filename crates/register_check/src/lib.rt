@@ -1,22 +1,23 @@
 // A register of pegs in a lent buffer: whether it is one, and what stands in it.
 #![tactic(auto)]
 
-ghost use Rattle.std.specs.Prelude.{◌≡◌, ◌<◌};
+ghost use Rattle.std.specs.Prelude.{◌≡◌, ◌+◌, ◌*◌, ◌≤◌, ◌<◌, length};
 ghost use Rattle.std.proofs.Math.Option.{some};
-ghost use Rattle.pegs.specs.Image.{register_length, peg_at, peg_count};
+ghost use Rattle.pegs.specs.Register.{most_pegs};
+ghost use Rattle.pegs.specs.Image.{count_size, peg_size, register_length, peg_at};
 ghost use Rattle.pegs.specs.Outcome.{not_found, found_if, find_on};
-ghost use Rattle.register_check.specs.Slots.{slot_at};
 ghost use Rattle.register_check.specs.Answers.{located};
 
 pub mod layout; // layout.rt: where the parts of a register lie
 pub mod refusing; // refusing.rt: its refusals
 pub mod contents; // contents.rt: the register that a buffer holds
 pub mod checking; // checking.rt: whether a buffer holds a register
-pub mod coordinates; // coordinates.rt: bits as millimetres
+pub mod coordinates; // coordinates.rt: bits as millimetres, pegs as points
 pub mod searching; // searching.rt: a peg searched by its name
 
 use contents::Register;
-use layout::REGISTER_LENGTH;
+use coordinates::point_at;
+use layout::{COUNT_SIZE, PEG_SIZE, REGISTER_LENGTH};
 
 // How long a register's buffer must be.
 pub fn register_length() -> u32
@@ -52,11 +53,11 @@ impl RegisterFind {
     }
 
     // The peg in the slot of this index.
-    pub fn peg(register: Register, index: usize) -> RegisterFind
-        requires { index < peg_count register.bytes.now }
-        ensures { located result ≡ found_if index (some (peg_at register.entry.bytes.now (slot_at index)).place) }
+    pub fn peg(register: &[u8], index: usize) -> RegisterFind
+        requires { (index < most_pegs) × (count_size + peg_size * index + peg_size ≤ length register.now) }
+        ensures { located result ≡ found_if index (some (peg_at register.now (count_size + peg_size * index)).place) }
     {
-        let place = register.place(index);
+        let place = point_at(register, COUNT_SIZE + PEG_SIZE * index);
         RegisterFind {
             number: 0,
             found: 1,
@@ -73,7 +74,7 @@ pub fn find(register: &[u8], name: &[u8]) -> RegisterFind
 {
     match Register::read(register) {
         Err(refusal) => RegisterFind::none(u32::from(refusal)),
-        Ok(register) => match register.search(name) {
+        Ok(held) => match held.search(name) {
             Ok(index) => RegisterFind::peg(register, index),
             Err(_) => RegisterFind::none(0),
         },

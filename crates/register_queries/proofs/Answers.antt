@@ -13,6 +13,7 @@ use Rattle.register_check.specs.declared.contents.Register.{Register}
 use Rattle.register_check.specs.declared.refusing.RegisterRefusal.{RegisterRefusal}
 use Rattle.register_check.specs.Numbers.{refused_number}
 use Rattle.register_check.proofs.Found.{refusal_some, refused_some}
+use Rattle.register_check.proofs.Held.{held_room, held_slot}
 use Rattle.register_queries.specs.Arguments.{held_number}
 use Rattle.base.specs.Tests.{◌=?◌}
 use Rattle.base.specs.Lists.{first_from}
@@ -23,6 +24,7 @@ use Rattle.plane.specs.declared.Rectangle.{Rectangle}
 use Rattle.plane.specs.declared.Region.{Region}
 use Rattle.plane.specs.declared.Region.TheVariants.{Inside, Within}
 use Rattle.plane.specs.Plane.{sides_rise}
+use Rattle.pegs.specs.Register.{most_pegs}
 use Rattle.pegs.specs.Image.{count_size, peg_size, register_length, register_image, peg_at, peg_count, pegs_in}
 use Rattle.pegs.specs.Outcome.{register_short, register_number, changed, Found, not_found, found_if}
 use Rattle.pegs.specs.Regions.{pegs_inside, nearest}
@@ -105,6 +107,14 @@ nearest_inside b p i e =
     let c = nearest_closest p (pegs_in b) i (sym e) in
     omega (arith, at_low (pegs_in b) i c.0 c.1.stands, slots_count b)
 
+-- The nearest peg has a slot.
+module _ (c : List ℕ) (p : Point) (ok : register_number c ≡ 0) (i : ℕ) (h : some i ≡ nearest p (pegs_in c)) where
+  pub nearest_few : i < most_pegs
+  nearest_few = (held_slot c ok i (nearest_inside c p i h)).few
+
+  pub nearest_room : (b : List ℕ) → c ≡ b → count_size + peg_size * i + peg_size ≤ length b
+  nearest_room b e = omega (arith, ap length e, held_room c ok i (nearest_inside c p i h))
+
 module _ (b : List ℕ) (p : Point) (r : Found) where
   pub nearest_refused : (f : Refusal) (k : ℕ) → k ≡ refusal_number f → refusal_number f ≡ register_number b → r ≡ not_found k → r ≡ nearest_on b p
   unfolding nearest_on
@@ -120,7 +130,9 @@ module _ (b : List ℕ) (p : Point) (r : Found) where
     unfolding found_at
     nearest_none h f = searched (f ∙ ap (found_at (pegs_in c)) h)
 
-    pub nearest_found : (i : ℕ) → some i ≡ nearest p (pegs_in c) → r ≡ found_if i (some (peg_at c (count_size + peg_size * i)).place) → r ≡ nearest_on b p
+    pub nearest_found : (i : ℕ) → some i ≡ nearest p (pegs_in c) → r ≡ found_if i (some (peg_at b (count_size + peg_size * i)).place) → r ≡ nearest_on b p
     unfolding found_at found_peg
     nearest_found i h f =
-        searched (f ∙ sym (ap (found_at (pegs_in c)) (sym h) ∙ ap (found_peg i) (slot_at_lem c i (nearest_inside c p i h))))
+        searched
+        (f ∙ ap (λ (x : List ℕ). found_if i (some (peg_at x (count_size + peg_size * i)).place)) (sym e)
+        ∙ sym (ap (found_at (pegs_in c)) (sym h) ∙ ap (found_peg i) (slot_at_lem c i (nearest_inside c p i h))))

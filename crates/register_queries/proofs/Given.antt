@@ -41,5 +41,5 @@ module _ (e n : ℤ) (fe : SFits w32 e) (fn : SFits w32 n) where
     none_given f g = nearest_none b (point e n) r c h ok (f ∙ ap (λ (p : Point). nearest p (pegs_in c)) point_bits) g
 
     pub nearest_given : (i : ℕ) → some i ≡ nearest (point (bits_of e) (bits_of n)) (pegs_in c)
-        → r ≡ found_if i (some (peg_at c (count_size + peg_size * i)).place) → r ≡ nearest_on b (point e n)
+        → r ≡ found_if i (some (peg_at b (count_size + peg_size * i)).place) → r ≡ nearest_on b (point e n)
     nearest_given i f g = nearest_found b (point e n) r c h ok i (f ∙ ap (λ (p : Point). nearest p (pegs_in c)) point_bits) g

@@ -59,7 +59,7 @@ pub fn nearest_on(register: &[u8], easting: i32, northing: i32) -> RegisterFind
 {
     match Register::read(register) {
         Err(refusal) => RegisterFind::none(u32::from(refusal)),
-        Ok(register) => match nearest(register, Point { easting, northing }) {
+        Ok(held) => match nearest(held, Point { easting, northing }) {
             Some(index) => RegisterFind::peg(register, index),
             None => RegisterFind::none(0),
         },
