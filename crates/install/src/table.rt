@@ -16,7 +16,7 @@ use record::parts::id_at;
 use record::{ActionId, State};
 
 // The place of an id in the table, which is one of the table's.
-fn entry(id: ActionId) -> usize
+pub fn entry(id: ActionId) -> usize
     requires { id.creator < most_servers_limit }
     ensures { (result ≡ slot (the_id id)) × (result < most_ids) }
 {
@@ -40,7 +40,7 @@ pub fn index_at(state: &[u8], k: usize) -> u16
 }
 
 // The place of its id in the table.
-fn entry_at(state: &[u8], k: usize) -> usize
+pub fn entry_at(state: &[u8], k: usize) -> usize
     requires { HoldsSome state.now × CountsIn state.now × (k < queue_count state.now) }
     ensures { (result ≡ slot (id_in state.now k)) × (result < most_ids) }
 {

@@ -254,7 +254,7 @@ pub fn on_transitional(state: &mut [u8], h: State, set: u8) -> Result<Taken, Ref
     if !transitional_due(h) {
         return Err(Refusal::NotNow);
     }
-    leave(state, mode, set);
+    leave(state, u8::from(mode), set);
     Ok(Taken::quiet())
 }
 

@@ -113,7 +113,7 @@ fn after_states(state: &mut [u8], out: &mut [u8]) -> Taken
     if planned_now(state) != 0 {
         return await_actions(state, out);
     }
-    set_mode(state, Mode::NonPrim);
+    set_mode(state, u8::from(Mode::NonPrim));
     end_exchange(state, out)
 }
 
@@ -164,7 +164,7 @@ fn close(state: &mut [u8])
     requires { HoldsSuch (λ s. s.membership.mode ≡ Exchange_actions) state.old }
     ensures { Becomes (λ s. one_more (in_mode Non_prim s)) state.old state.new }
 {
-    set_mode(state, Mode::NonPrim);
+    set_mode(state, u8::from(Mode::NonPrim));
     one_more(state);
 }
 

@@ -28,7 +28,7 @@ fn install_in(state: &mut [u8], mode: Mode)
     requires { HoldsSuch (Installs (mode_code mode)) state.old }
     ensures { BecomesIn (mode_code mode) (λ m s. in_mode m (installed s)) state.old state.new }
 {
-    set_mode(state, mode);
+    set_mode(state, u8::from(mode));
     install(state);
 }
 
@@ -37,7 +37,7 @@ fn end_install(state: &mut [u8])
     requires { HoldsSuch (Installs 2) state.old }
     ensures { Becomes (λ s. in_mode Trans_prim (with_votes (install_votes s.votes) s)) state.old state.new }
 {
-    set_mode(state, Mode::TransPrim);
+    set_mode(state, u8::from(Mode::TransPrim));
     install_votes(state);
 }
 
@@ -80,6 +80,6 @@ pub fn collect_late_cpc(state: &mut [u8], k: u8)
 {
     add_cpc(state, k);
     if all_cpcs_in(state) {
-        set_mode(state, Mode::Un);
+        set_mode(state, u8::from(Mode::Un));
     }
 }

@@ -1,7 +1,6 @@
 // The state that a server is in, its configurations, and what is collected in them.
 ghost use Rattle.std.specs.Prelude.{◌≤◌, ◌<◌, length};
 ghost use Rattle.format.specs.Limits.{most_servers_limit};
-ghost use Rattle.record.specs.Codes.{mode_code};
 ghost use Rattle.replication.specs.Machine.Types.{in_mode};
 ghost use Rattle.replication.specs.Machine.Step.{entering, leave as left, with_cpc};
 ghost use Rattle.image.specs.Holding.{Becomes};
@@ -13,17 +12,11 @@ use record::sets::with_member;
 use record::{Mode, State};
 
 // Another of the eight states.
-pub fn set_mode(state: &mut [u8], mode: Mode)
+pub fn set_mode(state: &mut [u8], mode: u8)
     requires { header_size ≤ length state.old }
-    ensures { BecomesIn (mode_code mode) in_mode state.old state.new }
+    ensures { BecomesIn mode in_mode state.old state.new }
 {
-    change(
-        state,
-        |h| State {
-            mode: u8::from(mode),
-            ..h
-        },
-    );
+    change(state, |h| State { mode, ..h });
 }
 
 // Entering Exchange_states with this configuration.
@@ -48,14 +41,14 @@ pub fn enter_exchange(state: &mut [u8], id: u32, set: u8)
 }
 
 // A transitional configuration of this set, and the state that it leads to.
-pub fn leave(state: &mut [u8], mode: Mode, set: u8)
+pub fn leave(state: &mut [u8], mode: u8, set: u8)
     requires { header_size ≤ length state.old }
-    ensures { BecomesIn (mode_code mode) (λ m. left m set) state.old state.new }
+    ensures { BecomesIn mode (λ m. left m set) state.old state.new }
 {
     change(
         state,
         |h| State {
-            mode: u8::from(mode),
+            mode,
             transitional_status: 1,
             transitional_set: set,
             ..h

@@ -1,3 +1,4 @@
+use mathlib.Core.Path.{◌∙◌}
 use Rattle.step.proofs.StatesLaws.{after_awaited, after_ends, after_ended}
 use Rattle.outgoing.proofs.LentLaws.{lent_header, lent_some}
 use borrow.Author.Rules.{rules}
@@ -18,13 +19,13 @@ set_mode-requires c = lent_header _ _ _ c.requires
 pub end_exchange-requires : goal.end_exchange-requires
 end_exchange-requires c =
     after_ends _ _ c.requires _
-    c.planned_now.ensures _ c.set_mode.ensures
+    c.planned_now.ensures _ (λ s m h e. c.set_mode.ensures s m h (c.from.ensures ∙ e))
 
 pub returns : goal.returns
 returns c =
     after_ended _ _
     c.requires _
     c.planned_now.ensures _
-    c.set_mode.ensures
+    (λ s m h e. c.set_mode.ensures s m h (c.from.ensures ∙ e))
     c.if-planned_now-ne0.false _ _ _
     c.end_exchange.ensures

@@ -1,3 +1,4 @@
+use mathlib.Core.Path.{◌∙◌}
 use Rattle.step.proofs.InstallingLaws.{cpc_room, late_some, late_header, late_waiting, late_complete}
 use Rattle.step.proofs.installing.collect_late_cpc.Goals as goal
 
@@ -27,4 +28,4 @@ returns-then-all_cpcs_in c =
     c.add_cpc.ensures
     _ c.all_cpcs_in.ensures
     _ c.if-all_cpcs_in.true
-    c.set_mode.ensures
+    (λ s m h e. c.set_mode.ensures s m h (c.from.ensures ∙ e))

@@ -1,3 +1,4 @@
+use mathlib.Core.Path.{◌∙◌}
 use Rattle.step.proofs.Installed.{mode_some}
 use Rattle.step.proofs.LateLaws.{votes_ended}
 use Rattle.image.proofs.InPlace.{such_header}
@@ -13,5 +14,5 @@ install_votes-requires c = search (rules, mode_some)
 pub returns : goal.returns
 returns c =
     votes_ended _ _ c.requires
-    c.set_mode.ensures
+    (λ s m h e. c.set_mode.ensures s m h (c.from.ensures ∙ e))
     _ c.install_votes.ensures
