@@ -9,7 +9,8 @@ mod vector;
 
 use register_check::register_length;
 use report::ROOM;
-use std::io::{Result, Write, writer};
+use std::io::{Result, Write};
+use vector_tools::output::Output;
 use vector_tools::text::{decode, split_label, without_end};
 
 // What buffers hold at first.
@@ -27,8 +28,8 @@ fn line<W: Write>(out: &mut W, base: &mut [u8; ROOM], s: &[u8]) -> Result<()> {
     out.write_all(b"\n")
 }
 
-fn main(rt: HostRuntime) -> Result<()> {
-    let mut out = writer(&rt);
+fn main() -> Result<()> {
+    let mut out = Output;
     writeln!(out, "length {}", register_length())?;
     let mut input: [u8; MOST_INPUT] = [0; MOST_INPUT];
     let n = io::read_full(0, &mut input);

@@ -21,13 +21,11 @@ fn register<W: Write>(out: &mut W, s: &[u8; ROOM]) -> Result<()> {
 }
 
 pub fn changes<W: Write>(out: &mut W, old: &[u8; ROOM], new: &[u8; ROOM]) -> Result<()> {
-    let first = old.iter().zip(new.iter()).position(|(a, b)| *a != *b);
-    let last = old.iter().zip(new.iter()).rposition(|(a, b)| *a != *b);
-    match (first, last) {
-        (Some(first), Some(last)) => {
-            write!(out, " changed {first}-{last}")?;
-            register(out, new)
-        }
-        _ => write!(out, " as before"),
-    }
+    // From the end first, which is the only search where nothing differs.
+    let Some(last) = (0..ROOM).rev().find(|k| old[*k] != new[*k]) else {
+        return write!(out, " as before");
+    };
+    let first = (0..last).find(|k| old[*k] != new[*k]).unwrap_or(last);
+    write!(out, " changed {first}-{last}")?;
+    register(out, new)
 }

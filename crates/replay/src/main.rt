@@ -133,7 +133,7 @@ fn main(rt: HostRuntime) {
         }
         Err(refusal) => {
             let mut line = ArrayString::<HEAD_ROOM>::new();
-            push_setup_line(&mut line, refusal);
+            push_setup_line(&mut line, u32::from(refusal));
             io::write_all(1, line.as_str().as_bytes());
         }
     }

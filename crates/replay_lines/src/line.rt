@@ -3,13 +3,11 @@ ghost use Rattle.std.specs.Prelude.{◌≡◌, ◌+◌, ◌≤◌, ◌++◌, [],
 ghost use Rattle.base.specs.Text.{decimal as decimal_of};
 ghost use Rattle.replication.specs.Replay.{mode_name, header, line, setup_line};
 ghost use Rattle.image.specs.Decode.{mode_named};
-ghost use Rattle.refusals.specs.Numbers.{refusal_number};
 ghost use Rattle.replay_lines.specs.Lines.{Put, line_room, spaced, ended, pair_text, shown_line};
 
 use arrayvec::ArrayString;
 use itoa::Buffer;
 use record::State;
-use refusals::Refusal;
 
 // The most bytes that a line takes.
 pub const LINE_ROOM: usize = 164;
@@ -109,20 +107,20 @@ pub fn header() -> &'static str
     "event server returned state red green prim sent\n"
 }
 
-// A word and the refusal's number: "prints `input` and 2 or 1".
-pub fn push_refusal<const N: usize>(out: &mut ArrayString<N>, word: &str, refusal: Refusal)
+// A word and a number: "prints `input` and 2 or 1".
+pub fn push_refusal<const N: usize>(out: &mut ArrayString<N>, word: &str, number: u32)
     requires { length out.old.bytes + (length word.now + 22) ≤ N }
-    ensures { Put (line (word.now ∷ decimal_of (refusal_number refusal) ∷ [])) (length word.now + 22) out.old.bytes out.new.bytes }
+    ensures { Put (line (word.now ∷ decimal_of number ∷ [])) (length word.now + 22) out.old.bytes out.new.bytes }
 {
     out.push_str(word);
     out.push_str(" ");
-    push_last(out, u64::from(u32::from(refusal)));
+    push_last(out, u64::from(number));
 }
 
 // "prints `setup` and its number (1 or 2)"
-pub fn push_setup_line<const N: usize>(out: &mut ArrayString<N>, refusal: Refusal)
+pub fn push_setup_line<const N: usize>(out: &mut ArrayString<N>, number: u32)
     requires { length out.old.bytes + 27 ≤ N }
-    ensures { Put (setup_line (refusal_number refusal)) 27 out.old.bytes out.new.bytes }
+    ensures { Put (setup_line number) 27 out.old.bytes out.new.bytes }
 {
-    push_refusal(out, "setup", refusal);
+    push_refusal(out, "setup", number);
 }

@@ -59,7 +59,7 @@ pub struct Stepped {
 
 impl Server {
     // The state that the event comes to. "Recovery starts from that server's last stored image."
-    fn source(&self, e: &[u8]) -> [u8; STATE_ROOM]
+    pub fn source(&self, e: &[u8]) -> [u8; STATE_ROOM]
         ensures { result ≡ source_in (buffers_of self.now) e.now }
     {
         if is_recovery(e) {
@@ -69,7 +69,7 @@ impl Server {
     }
 
     // With the new state, stored too where the store word is 1; as before where the event was refused.
-    fn kept(self, state: [u8; STATE_ROOM], number: u32, store: u32) -> Server
+    pub fn kept(self, state: [u8; STATE_ROOM], number: u32, store: u32) -> Server
         ensures { result ≡ entry_after self number store state }
     {
         if number != 0 {

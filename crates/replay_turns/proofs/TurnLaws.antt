@@ -98,12 +98,18 @@ module _ (n : ℕ) (input : List ℕ) (ended : Bool) (t : List Server) (event : 
         most = p.most;
       })
 
-  pub wrong_turn : (k : Refusal) (o₁ : List ℕ) → Err k ≡ next_of n input ended → Put (line (ascii "input" ∷ decimal (refusal_number k) ∷ [])) 27 o o₁
-      → Took (turn_of t n event input ended) t (record { taken = 0; going = Stop }) o o₁
+  pub wrong_turn : (k : Refusal) (number : ℕ) (o₁ : List ℕ) → Err k ≡ next_of n input ended → number ≡ refusal_number k
+      → Put (line (ascii "input" ∷ decimal number ∷ [])) 27 o o₁ → Took (turn_of t n event input ended) t (record { taken = 0; going = Stop }) o o₁
   unfolding turn_by input_line
-  wrong_turn k o₁ h p =
+  wrong_turn k number o₁ h e p =
       as_turn n input ended t event o (Err k) t (record { taken = 0; going = Stop }) o₁ h
-      (record { table = refl; taken = refl; going = refl; text = p.text; most = omega (arith, p.most) })
+      (record {
+        table = refl;
+        taken = refl;
+        going = refl;
+        text = p.text ∙ ap (λ (x : ℕ). o ++ line (ascii "input" ∷ decimal x ∷ [])) e;
+        most = omega (arith, p.most);
+      })
 
   pub more_turn : (y : Next) → Ok y ≡ next_of n input ended → y ≡ More → Took (turn_of t n event input ended) t (record { taken = 0; going = Read }) o o
   unfolding turn_by

@@ -127,7 +127,7 @@ impl Replay {
                 going: Going::Stop,
             },
             Err(refusal) => {
-                push_refusal(out, "input", refusal);
+                push_refusal(out, "input", u32::from(refusal));
                 Turn {
                     taken: 0,
                     going: Going::Stop,

@@ -1,13 +1,17 @@
 // Lines and hexadecimal digits.
-ghost use Rattle.std.specs.Prelude.{◌<◌, ⊤, MatchOption};
+ghost use Rattle.std.specs.Prelude.{◌≡◌, ◌<◌, ◌≤◌, ◌⊎◌, ⊤, [], ◌∷◌, ◌++◌, length, MatchOption};
 
 // A line without its end, as `split_inclusive` cuts it.
-pub fn without_end(line: &[u8]) -> &[u8] {
+pub fn without_end(line: &[u8]) -> &[u8]
+    ensures { (result.now ≡ line.now) ⊎ (result.now ++ 10 ∷ [] ≡ line.now) }
+{
     line.strip_suffix(b"\n").unwrap_or(line)
 }
 
 // A line's digits, and its label from '#' on.
-pub fn split_label(line: &[u8]) -> (&[u8], &[u8]) {
+pub fn split_label(line: &[u8]) -> (&[u8], &[u8])
+    ensures { result.0.now ++ result.1.now ≡ line.now }
+{
     let end = line.iter().position(|b| *b == b'#').unwrap_or(line.len());
     line.split_at(end)
 }
@@ -29,7 +33,9 @@ fn byte(high: u8, low: u8) -> Option<u8> {
 }
 
 // The bytes that pairs of digits make, put into e from its start, as far as it goes; what is no pair is passed over.
-pub fn decode<'a>(s: &[u8], e: &'a mut [u8]) -> &'a [u8] {
+pub fn decode<'a>(s: &[u8], e: &'a mut [u8]) -> &'a [u8]
+    ensures { length result.now ≤ length e.old }
+{
     let mut rest = s;
     let mut n = 0;
     while let [high, low, ..] = rest {

@@ -11,7 +11,8 @@ mod records;
 mod states;
 mod writing;
 
-use std::io::{Result, Write, writer};
+use std::io::{Result, Write};
+use vector_tools::output::Output;
 use vector_tools::text::{decode, split_label, without_end};
 
 // What the vectors of a group are run through.
@@ -72,8 +73,8 @@ fn heading<W: Write>(out: &mut W, s: &[u8]) -> Result<Option<Group>> {
     Ok(group)
 }
 
-fn main(rt: HostRuntime) -> Result<()> {
-    let mut out = writer(&rt);
+fn main() -> Result<()> {
+    let mut out = Output;
     let mut input: [u8; 131072] = [0; 131072];
     let n = io::read_full(0, &mut input);
     let mut base: [u8; states::ROOM] = [0; states::ROOM];

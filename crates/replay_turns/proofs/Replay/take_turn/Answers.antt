@@ -28,4 +28,4 @@ returns-in-Ok-Done-clause-took g c = done_turn _ _ _ _ _ _ _ c.in-Ok-Done.ensure
 
 pub returns-in-Err-clause-took : goal.returns-in-Err-clause-took
 unfolding ascii
-returns-in-Err-clause-took g c = wrong_turn _ _ _ _ _ _ _ _ c.in-Err.ensures c.push_refusal.ensures
+returns-in-Err-clause-took g c = wrong_turn _ _ _ _ _ _ _ _ _ c.in-Err.ensures (search rules) c.push_refusal.ensures
