@@ -40,7 +40,10 @@ unfolding written
 stored_four v r fs e =
     rw (bytes4 v) (ap (λ (l : List ℕ). v / 16777216 % 256 ∷ v / 65536 % 256 ∷ v / 256 % 256 ∷ v % 256 ∷ l) e)
 
-pub ruleset stored = (stored_none, stored_one, stored_two, stored_four)
+pub stored_at : (at : ℕ) (x y s t : List ℕ) → t ≡ patched at x s → x ≡ y → t ≡ patched at y s
+stored_at at x y s t e f = e ∙ ap (λ (l : List ℕ). patched at l s) f
+
+pub ruleset stored = (stored_at, stored_none, stored_one, stored_two, stored_four)
 
 -- The bytes of numbers that are kept as they were made.
 module _ (h : State) where

@@ -182,6 +182,13 @@ module _ (w m : ℕ) (e : List ℕ) (at : ℕ) (i : IdsInside w m e at) (k : ℕ
   pub here_fits : length e < 2 ^ 64 → Fits w64 (at + w * k)
   here_fits l = record { fits = omega (arith, here_inside) }
 
+-- The others behind the first.
+pub next_inside : (w m : ℕ) (e : List ℕ) (at : ℕ) → IdsInside w m e at → 0 < m → IdsInside w (m - 1) e (at + w)
+next_inside w m e at h l =
+    let a : m ≡ suc (m - 1) = omega arith in
+    let b : w * m ≡ w * (m - 1) + w = ap (λ (i : ℕ). w * i) a ∙ mul-suc w (m - 1) in
+    record { wide = h.wide; inside = omega (arith, h.inside) }
+
 -- None of the first k, and so on.
 module _ (d : Id) (w k : ℕ) (e : List ℕ) (at : ℕ) where
   pub among_again : (r : Bool) → has_id d (ids_by w k e at) ≡ false → r ≡ same_id d (id_at e (at + w * k)) → r ≡ false → has_id d (ids_by w (k + 1) e at) ≡ false
